@@ -8,6 +8,10 @@ import sys
 TOP = os.path.dirname(os.path.dirname(os.path.abspath(__file__)))
 PROGRAM = os.path.join(TOP, "crates", "printd", "out", "printd")
 
+# by their schema's number: statements that make a store's tables those of an earlier release, where a job that is to stop had no cause
+SECOND_SCHEMA = "DROP INDEX jobs_by_ended; DROP TABLE operators; UPDATE jobs SET why = 0 WHERE stopping = 1; UPDATE meta SET schema = 2;"
+OLDER = {2: SECOND_SCHEMA, 1: SECOND_SCHEMA + "DROP INDEX jobs_by_age; DROP TABLE policy; UPDATE meta SET schema = 1;"}
+
 
 def free_port():
     """A port of 127.0.0.1 on which nobody listens now."""

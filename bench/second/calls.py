@@ -1,4 +1,7 @@
-"""Calls of several callers, the device and the office on one queue, drawn by a fixed rule. Most of them are such as are taken."""
+"""Calls of several callers, one of them an operator, of the device and the office on one queue, drawn by a fixed rule. Most of them are
+such as are taken."""
+from typing import Callable
+
 from ipp import (
     BOOLEAN,
     CANCEL_JOB,
@@ -23,9 +26,10 @@ from ipp import (
     record,
     request,
 )
+from second.queue import KeptJob, can_be_canceled
 
-# the last of them has no account
-CALLERS = ["alice", "bob", "Jürg", "dora"]
+# the last of them has no account; opal is an operator where there is one
+CALLERS = ["alice", "bob", "Jürg", "opal", "dora"]
 ACCOUNTS = CALLERS[:-1]
 
 # by the state of a job: the kinds of reports that are taken
@@ -62,9 +66,11 @@ class Calls:
         calls = 5 * [self.new_job] + 7 * [self.on_job] + [self.cancel_jobs] + 2 * [self.look] + 8 * [self.device] + 2 * [self.office] + [self.expire]
         return self.draws.choice(calls)()
 
-    def a_job(self, caller, is_fit):
-        """A job of the caller's that is fit, else another of its own, and at times just any number."""
-        own = [job for job in self.queue.jobs.values() if job.owner == octets(caller)]
+    def a_job(self, caller: str, is_fit: Callable[[KeptJob], bool], takes_any: bool = False) -> int:
+        """A job of the caller's that is fit, else another of its own, and at times just any number. To an operator, where the operation
+        takes any job, all jobs are as its own."""
+        has_any = takes_any and octets(caller) in self.queue.operators
+        own = [job for job in self.queue.jobs.values() if has_any or job.owner == octets(caller)]
         fit = [job for job in own if is_fit(job)] or own
         if not fit or self.draws.chance(8):
             return self.draws.below(len(self.queue.jobs) + 2)
@@ -89,12 +95,15 @@ class Calls:
     def on_job(self):
         operation = self.draws.choice(4 * [RELEASE_JOB] + 4 * [SEND_DOCUMENT] + 2 * [HOLD_JOB, CANCEL_JOB] + [GET_JOB_ATTRIBUTES])
         caller = self.draws.choice(CALLERS)
+        # else one that the device has
+        is_any_canceled = self.draws.chance(60)
         fit = {
             RELEASE_JOB: lambda job: job.is_live() and job.is_held,
             SEND_DOCUMENT: lambda job: job.takes_documents,
             HOLD_JOB: lambda job: job.is_live() and not job.is_held,
+            CANCEL_JOB: lambda job: can_be_canceled(job) and (job.begun is not None or is_any_canceled),
         }
-        number = self.a_job(caller, fit.get(operation, lambda job: job.is_live()))
+        number = self.a_job(caller, fit.get(operation, lambda job: job.is_live()), operation in (CANCEL_JOB, GET_JOB_ATTRIBUTES))
         rows, payload = [], b""
         if operation == SEND_DOCUMENT:
             rows.append(record(BOOLEAN, "last-document", self.draws.chance(60)))
@@ -121,9 +130,12 @@ class Calls:
             return request(GET_PRINTER_ATTRIBUTES, names, caller=caller)
         if which == 1:
             names = self.draws.below(2) * [attribute(KEYWORD, "requested-attributes", "job-state-reasons")]
-            return job_request(GET_JOB_ATTRIBUTES, self.a_job(caller, lambda job: not job.is_live()), *names, caller=caller)
+            number = self.a_job(caller, lambda job: not job.is_live(), takes_any=True)
+            return job_request(GET_JOB_ATTRIBUTES, number, *names, caller=caller)
         names = attribute(KEYWORD, "requested-attributes", "job-id", "job-state", "job-impressions-completed")
         rows = [record(KEYWORD, "which-jobs", self.draws.choice(["completed", "not-completed"])), *self.draws.below(2) * [names]]
+        if self.draws.chance(50):
+            rows.append(record(BOOLEAN, "my-jobs", self.draws.chance(40)))
         return request(GET_JOBS, *rows, record(INTEGER, "limit", 1 + self.draws.below(6)), caller=caller)
 
     def device(self):
@@ -137,14 +149,16 @@ class Calls:
             return b"dev %d %d %s %d" % (report.job, report.sequence, report.kind, report.count + (which == 4))
         return b"dev " + octets(self.new_report())
 
-    def new_report(self):
+    def new_report(self) -> str:
         jobs = list(self.queue.jobs.values())
         if not jobs:
             return "1 1 start 0"
         # most often of a job that the device has or may start
         fit = [job for job in jobs if job.state in TAKEN]
         job = self.draws.choice(fit if fit and self.draws.chance(90) else jobs)
-        kind = self.draws.choice(TAKEN[job.state] if job.state in TAKEN and self.draws.chance(90) else KINDS)
+        # the device halts most of those that are to stop
+        taken = TAKEN.get(job.state, KINDS) + 6 * ["halt"] * job.is_stopping()
+        kind = self.draws.choice(taken if self.draws.chance(90) else KINDS)
         count = max(job.completed + self.draws.below(9) - 2, 0)
         return f"{job.number} {1 + self.draws.below(1_000_000)} {kind} {count}"
 

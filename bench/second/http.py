@@ -56,8 +56,8 @@ class Ended(Exception):
 class Shelf(Queue):
     """A queue that keeps the documents of its jobs, as pairs of a format and content."""
 
-    def __init__(self, seconds: int) -> None:
-        super().__init__(seconds)
+    def __init__(self, seconds: int, operators: frozenset[bytes]) -> None:
+        super().__init__(seconds, operators)
         self.documents = {}
 
     def act(self, request, now):

@@ -1,6 +1,7 @@
 """The jobs and the accounts of a printer, and what it answers (docs/queue.md, docs/device.md, docs/accounts.md and "Replies" in
 docs/protocol.md)."""
 from dataclasses import dataclass, replace
+from typing import Optional
 
 import ipp
 from ipp import (
@@ -22,7 +23,7 @@ from ipp import (
     reply,
     unsupported,
 )
-from second.checks import OPERATIONS, Refused, asked, name_of, signed
+from second.checks import OPERATIONS, Asked, Refused, asked, name_of, signed
 from second.device import KINDS, RefusedReport, is_taken, read_report
 from second.grants import RefusedFile, new_rows, read_row, records
 
@@ -31,11 +32,14 @@ MOST_DOCUMENTS = 16
 ESTIMATE = 20
 # the seconds for which the queue of a replay keeps a job that is held or open
 KEEP = 3600
+# the operators of a replay
+OPERATORS = frozenset([b"opal"])
 
 HELD = "job-hold-until-specified"
 INCOMING = "job-incoming"
 STOPPING = "processing-to-stop-point"
 BY_USER = "job-canceled-by-user"
+BY_OPERATOR = "job-canceled-by-operator"
 AT_DEVICE = "job-canceled-at-device"
 ABORTED = "aborted-by-system"
 COMPLETED = "job-completed-successfully"
@@ -48,23 +52,27 @@ class KeptJob(Job):
     """A job, with the marks that replies tell by its state and reasons alone."""
 
     takes_documents: bool = False
-    is_stopping: bool = False
+    # the reason with which it is to end, once a cancel was asked while the device has it
+    stopping: Optional[str] = None
 
-    def is_live(self):
+    def is_live(self) -> bool:
         return self.ended is None
+
+    def is_stopping(self) -> bool:
+        return self.stopping is not None
 
     def told(self):
         """The job with the state and the reasons that its marks make, as long as it is live."""
         if not self.is_live():
             return self
         if self.state in RUNNING:
-            reasons = ["job-printing" if self.state == 5 else "printer-stopped"] + [STOPPING] * self.is_stopping
+            reasons = ["job-printing" if self.state == 5 else "printer-stopped"] + [STOPPING] * self.is_stopping()
             return replace(self, reasons=tuple(reasons))
         reasons = [INCOMING] * self.takes_documents + [HELD] * self.is_held
         return replace(self, state=4 if reasons else 3, reasons=tuple(reasons or ["none"]))
 
     def ended_at(self, now, state, reason):
-        return replace(self, state=state, reasons=(reason,), ended=now, is_held=False, takes_documents=False)
+        return replace(self, state=state, reasons=(reason,), ended=now, is_held=False, takes_documents=False, stopping=None)
 
     def estimate(self):
         return self.impressions * self.copies
@@ -115,9 +123,10 @@ def selected(rows, names, groups):
 class Queue:
     """The jobs of a printer in the order of their numbers, the accounts of their owners, and the reports that were accepted."""
 
-    def __init__(self, seconds: int = KEEP) -> None:
+    def __init__(self, seconds: int = KEEP, operators: frozenset[bytes] = OPERATORS) -> None:
         # a job that is held or open is kept for this time, and without end if it is 0
         self.seconds = seconds
+        self.operators = operators
         self.jobs = {}
         self.granted = {}
         self.free = {}
@@ -126,9 +135,16 @@ class Queue:
     def live(self, caller=None):
         return [job for job in self.jobs.values() if job.is_live() and caller in (None, job.owner)]
 
-    def own(self, caller, number):
+    def own(self, caller: bytes, number: int) -> KeptJob:
         job = self.jobs.get(number)
         if job is None or job.owner != caller:
+            raise Refused(0x0406)
+        return job
+
+    def seen(self, caller: bytes, number: int) -> KeptJob:
+        """A job that the caller may look at and cancel: an operator any, others their own."""
+        job = self.jobs.get(number)
+        if job is None or (job.owner != caller and caller not in self.operators):
             raise Refused(0x0406)
         return job
 
@@ -173,14 +189,15 @@ class Queue:
             rows = printer_rows(now, self.live())
             groups = {b"all": rows, b"printer-description": rows}
             return [PRINTER_GROUP + selected(rows, [b"all"] if request.names is None else request.names, groups)]
-        job = self.own(request.caller, request.job)
         if operation == GET_JOB_ATTRIBUTES:
-            return [job_group(job, now, request.names, [b"all"])]
+            return [job_group(self.seen(request.caller, request.job), now, request.names, [b"all"])]
+        if operation == CANCEL_JOB:
+            self.cancel(request.caller, self.seen(request.caller, request.job), now)
+            return []
+        job = self.own(request.caller, request.job)
         if operation == SEND_DOCUMENT:
             return self.send_document(request, job)
-        if operation == CANCEL_JOB:
-            self.cancel(job, now)
-        elif operation == HOLD_JOB:
+        if operation == HOLD_JOB:
             self.hold(job)
         else:
             assert operation == RELEASE_JOB
@@ -231,13 +248,14 @@ class Queue:
             raise Refused(0x0404)
         self.keep(replace(job, is_held=False))
 
-    def cancel(self, job, now):
+    def cancel(self, caller: bytes, job: KeptJob, now: int) -> None:
         if not can_be_canceled(job):
             raise Refused(0x0404)
+        reason = BY_USER if job.owner == caller else BY_OPERATOR
         if job.state in RUNNING:
-            self.keep(replace(job, is_stopping=True))
+            self.keep(replace(job, stopping=reason))
         else:
-            self.keep(job.ended_at(now, 7, BY_USER))
+            self.keep(job.ended_at(now, 7, reason))
 
     def cancel_jobs(self, request, now):
         if request.jobs is None:
@@ -247,17 +265,21 @@ class Queue:
         if not all(can_be_canceled(job) for job in jobs):
             raise Refused(0x0404)
         for job in jobs:
-            self.cancel(job, now)
+            self.cancel(request.caller, job, now)
         return []
 
-    def list_jobs(self, request, now):
+    def list_jobs(self, request: Asked, now: int) -> list[bytes]:
+        asks_for_own = request.values.get(b"my-jobs", (None, b"\x00"))[1] == b"\x01"
+        shows_all = request.caller in self.operators and not asks_for_own
+        shown = [job for job in self.jobs.values() if shows_all or job.owner == request.caller]
         if request.values.get(b"which-jobs", (None, b""))[1] == b"completed":
-            jobs = [job for job in self.jobs.values() if job.owner == request.caller and not job.is_live()]
+            jobs = [job for job in shown if not job.is_live()]
             jobs.sort(key=lambda job: (-job.ended, -job.number))
         else:
             # those that the device has, those that it may start, those that wait
             ranks = {5: 0, 6: 0, 3: 1, 4: 2}
-            jobs = sorted(self.live(request.caller), key=lambda job: (ranks[job.state], job.number))
+            jobs = [job for job in shown if job.is_live()]
+            jobs.sort(key=lambda job: (ranks[job.state], job.number))
         if b"limit" in request.values:
             jobs = jobs[: signed(request.values[b"limit"][1])]
         return [job_group(job, now, request.names, [b"job-uri", b"job-id"]) for job in jobs]
@@ -304,8 +326,8 @@ class Queue:
         return len(expired)
 
 
-def can_be_canceled(job):
-    return job.is_live() and not job.is_stopping
+def can_be_canceled(job: KeptJob) -> bool:
+    return job.is_live() and not job.is_stopping()
 
 
 def reported(job, report, now):
@@ -316,7 +338,7 @@ def reported(job, report, now):
         return replace(job, state=state, begun=now if report.kind == b"start" else job.begun)
     if state is None:
         return job
-    reasons = {7: BY_USER if job.is_stopping else AT_DEVICE, 8: ABORTED, 9: COMPLETED}
+    reasons = {7: job.stopping or AT_DEVICE, 8: ABORTED, 9: COMPLETED}
     return job.ended_at(now, state, reasons[state])
 
 

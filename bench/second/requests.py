@@ -28,7 +28,7 @@ from ipp import (
     octets,
 )
 
-CALLERS = ["alice", "bob", "carol"]
+CALLERS = ["alice", "bob", "carol", "opal"]
 NEW_JOB = [PRINT_JOB, VALIDATE_JOB, CREATE_JOB]
 ON_JOB = [SEND_DOCUMENT, CANCEL_JOB, GET_JOB_ATTRIBUTES, HOLD_JOB, RELEASE_JOB]
 

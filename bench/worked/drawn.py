@@ -1,13 +1,15 @@
-"""Five hundred calls in a row over one queue, drawn by a fixed rule: several callers, the device, the office and sweeps, at moments that move."""
+"""Five hundred calls in a row over one queue, drawn by a fixed rule: several callers, one of them an operator, the device, the office and
+sweeps, at moments that move."""
 from ipp import Message
 from second.calls import ACCOUNTS, KINDS, Calls, Draws
 from second.checks import OPERATIONS
+from second.queue import BY_OPERATOR
 from worked.played import Play
 
 CALLS = 500
 
 with Play("five hundred calls in a row") as play:
-    draws = Draws(2029)
+    draws = Draws(2050)
     calls = Calls(draws, play.queue)
     play.grant("b1,alice,60")
     play.grant("b1,bob,200")
@@ -27,5 +29,6 @@ with Play("five hundred calls in a row") as play:
             done.add("expire")
     for name in ACCOUNTS:
         play.find_free(name)
-    # each operation and each kind of report was taken, and jobs expired
+    # each operation and each kind of report was taken, jobs expired, and the operator canceled some that waited and some that printed
     assert done >= {*OPERATIONS, *KINDS, "expire"}, done
+    assert {job.begun is None for job in play.queue.jobs.values() if BY_OPERATOR in job.reasons} == {True, False}

@@ -1,4 +1,6 @@
 """Jobs in each state with each reason: each operation and each report on them, another's job, and no job."""
+import functools
+
 from ipp import (
     BOOLEAN,
     CANCEL_JOB,
@@ -34,9 +36,13 @@ STATES = {
     "processing to its stop point": (["print", "release", "start", "cancel"], 5, ("job-printing", STOPPING)),
     "stopped": (["print", "release", "start", "stop"], 6, ("printer-stopped",)),
     "stopped and to end": (["print", "release", "start", "cancel", "stop"], 6, ("printer-stopped", STOPPING)),
+    "processing to its stop point by an operator": (["print", "release", "start", "operator"], 5, ("job-printing", STOPPING)),
+    "stopped and to end by an operator": (["print", "release", "start", "operator", "stop"], 6, ("printer-stopped", STOPPING)),
     "canceled while it waited": (["print", "cancel"], 7, ("job-canceled-by-user",)),
     "canceled while it printed": (["print", "release", "start", "cancel", "halt"], 7, ("job-canceled-by-user",)),
     "canceled at the device": (["print", "release", "start", "halt"], 7, ("job-canceled-at-device",)),
+    "canceled by an operator while it waited": (["print", "operator"], 7, ("job-canceled-by-operator",)),
+    "canceled by an operator while it printed": (["print", "release", "start", "operator", "halt"], 7, ("job-canceled-by-operator",)),
     "aborted": (["print", "release", "start", "fail"], 8, ("aborted-by-system",)),
     "completed": (["print", "release", "start", "done"], 9, ("job-completed-successfully",)),
 }
@@ -53,15 +59,16 @@ SHOWN = (
 )
 
 
-def bring(play, name):
-    """A new job of alice's in this state, by its number."""
+def bring(play: Play, name: str) -> int:
+    """A new job of alice's in this state, by its number. Its operator is opal."""
     steps, state, reasons = STATES[name]
     number = play.print_job() if steps[0] == "print" else play.create_job()
     for step in steps[1:]:
         if step in KINDS:
             assert play.report(number, step).startswith(b"ok"), name
         else:
-            {"release": play.release, "cancel": play.cancel}[step](number)
+            cancel_by_operator = functools.partial(play.cancel, caller="opal")
+            {"release": play.release, "cancel": play.cancel, "operator": cancel_by_operator}[step](number)
     job = play.job(number)
     assert (job.state, job.reasons) == (state, reasons), (name, job)
     return number

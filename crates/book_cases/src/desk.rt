@@ -3,9 +3,11 @@
 
 mod accounts;
 mod asked;
+pub(crate) mod book;
 mod device;
 mod documents;
 pub(crate) mod fault;
+pub(crate) mod operators;
 pub(crate) mod request;
 pub(crate) mod shelf;
 pub(crate) mod step;
@@ -13,7 +15,9 @@ mod sweep;
 
 ghost use Rattle.queue_core.specs.Limits.{IsMoment};
 
+use crate::desk::book::StepBook;
 use crate::desk::fault::StepFault;
+use crate::desk::operators::operators_of;
 use crate::desk::step::Step;
 use queue_core::QueueBook;
 use queue_types::limits::LAST_MOMENT;
@@ -21,9 +25,18 @@ use queue_types::settings::{SettingFault, Settings};
 use std::alloc::Global;
 use std::fmt::Debug;
 
-/// The settings of a printer with an estimate of 20 pages, which keeps a held job for an hour.
+/// The settings of a printer with an estimate of 20 pages, which keeps a held job for an hour and whose operator is opal.
 pub(crate) fn printer(alloc: Global) -> Result<Settings, SettingFault> {
-    Settings::new(alloc, "ipp://localhost/ipp/print", "release", 20, 0, 3600)
+    let operators = operators_of(alloc, &["opal"])?;
+    Settings::new(
+        alloc,
+        "ipp://localhost/ipp/print",
+        "release",
+        20,
+        0,
+        3600,
+        operators,
+    )
 }
 
 /// Where a desk is in its row.
@@ -37,6 +50,14 @@ impl Place {
     /// How many steps of the row lie between an earlier place and this one.
     pub(crate) fn behind(self, earlier: Place) -> usize {
         self.taken.saturating_sub(earlier.taken)
+    }
+
+    /// The place of the step before the one that stands here.
+    pub(crate) fn before(self) -> Place {
+        Place {
+            taken: self.taken.saturating_sub(1),
+            now: self.now,
+        }
     }
 
     /// The place behind the step that stands here.
@@ -60,7 +81,7 @@ pub(crate) struct Desk {
 }
 
 impl Desk {
-    /// That of a printer with an estimate of 20 pages, at moment 1.
+    /// That of the printer of these tests, at moment 1.
     pub(crate) fn new(alloc: Global) -> Result<Desk, StepFault> {
         Ok(Desk::of(alloc, printer(alloc)?, 1))
     }
@@ -107,7 +128,7 @@ impl Desk {
     }
 
     /// Takes a step over a book.
-    pub(crate) fn take<B: QueueBook>(
+    pub(crate) fn take<B: StepBook>(
         &mut self,
         book: &mut B,
         step: Step<'_>,
@@ -118,7 +139,7 @@ impl Desk {
     }
 
     /// Takes steps over a book.
-    pub(crate) fn take_each<B: QueueBook>(
+    pub(crate) fn take_each<B: StepBook>(
         &mut self,
         book: &mut B,
         steps: &[Step<'_>],
@@ -130,7 +151,7 @@ impl Desk {
     }
 
     /// Takes steps over a book, each a second after the one before.
-    pub(crate) fn take_by_seconds<B: QueueBook>(
+    pub(crate) fn take_by_seconds<B: StepBook>(
         &mut self,
         book: &mut B,
         steps: &[Step<'_>],
@@ -143,11 +164,7 @@ impl Desk {
     }
 
     /// Compares what comes of a step with what is wanted.
-    fn compare_step<B: QueueBook>(
-        &mut self,
-        book: &mut B,
-        step: Step<'_>,
-    ) -> Result<(), StepFault> {
+    fn compare_step<B: StepBook>(&mut self, book: &mut B, step: Step<'_>) -> Result<(), StepFault> {
         match step {
             Step::Now(moment) => {
                 self.now = moment;
@@ -157,6 +174,7 @@ impl Desk {
             Step::File(file, wanted) => self.compare_file(book, file, wanted),
             Step::Dev(line, wanted) => self.compare_answer(book, line, wanted),
             Step::Expire(wanted) => self.compare_sweep(book, wanted),
+            Step::Operators(names) => self.set_operators(book, names),
             Step::Ask(caller, request, wanted) => self.compare_code(book, caller, request, wanted),
             Step::AskTimes(count, caller, request, wanted) => {
                 self.compare_codes(book, count, caller, request, wanted)

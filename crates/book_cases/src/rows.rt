@@ -8,5 +8,7 @@ mod files;
 mod job_numbers;
 mod lists_of_jobs;
 mod messages;
+mod names;
+mod operators;
 mod stops;
 mod two_accounts;

@@ -5,6 +5,7 @@ mod columns;
 mod compare;
 mod judge;
 mod older;
+mod operators;
 mod pieces;
 mod queue;
 mod rows;

@@ -2,6 +2,8 @@
 use Rattle.std.specs.Prelude.{◌≡◌, ◌⊎◌}
 use Rattle.queue_core.specs.declared.book.BookFault.{BookFault}
 use Rattle.queue_core.specs.declared.book.BookFault.TheVariants as book
+use Rattle.queue_types.specs.declared.operators.NameFault.{NameFault}
+use Rattle.queue_types.specs.declared.operators.NameFault.TheVariants as names
 use Rattle.queue_types.specs.declared.settings.SettingFault.{SettingFault}
 use Rattle.queue_types.specs.declared.settings.SettingFault.TheVariants as setting
 use Rattle.office.specs.declared.fault.OfficeFault.{OfficeFault}
@@ -19,6 +21,11 @@ fault_of_book book.Damaged = Damaged
 abbrev pub fault_of_setting : SettingFault → Fault
 fault_of_setting setting.Bad = BadSetting
 fault_of_setting setting.Memory = Memory
+
+-- the names of operators are a setting
+abbrev pub fault_of_names : NameFault → Fault
+fault_of_names names.Memory = Memory
+fault_of_names _ = BadSetting
 
 abbrev pub fault_of_office : OfficeFault → Fault
 fault_of_office office.Memory = Memory

@@ -2,13 +2,14 @@
 ghost use Rattle.std.specs.Prelude.{◌≡◌};
 ghost use Rattle.command_ends.specs.Texts.{fault_text};
 ghost use Rattle.command_ends.specs.declared.fault.Fault.TheVariants as faults;
-ghost use Rattle.command_ends.specs.Faults.{fault_of_book, fault_of_office, fault_of_replay, fault_of_setting};
+ghost use Rattle.command_ends.specs.Faults.{fault_of_book, fault_of_names, fault_of_office, fault_of_replay, fault_of_setting};
 
 use arrayvec::ArrayString;
 use grants_csv::ImportFault;
 use itoa::Buffer;
 use office::OfficeFault;
 use queue_core::BookFault;
+use queue_types::operators::NameFault;
 use queue_types::settings::SettingFault;
 use std::alloc::AllocError;
 use std::{error, fmt, io};
@@ -31,7 +32,7 @@ pub enum Fault {
     NoAccount,
     /// The account file was refused.
     Import(ImportFault),
-    /// A setting of the printer is not within its limits.
+    /// A setting of the printer is not within its limits, or a name can't be that of an operator.
     BadSetting,
     /// A port, a file or a standard stream can't be opened, read or written, no connection can be taken, the clock can't be read, or a word is not UTF-8.
     Io,
@@ -100,6 +101,17 @@ impl From<SettingFault> for Fault {
         match told {
             SettingFault::Bad => Fault::BadSetting,
             SettingFault::Memory => Fault::Memory,
+        }
+    }
+}
+
+impl From<NameFault> for Fault {
+    ghost from_gives = { λ told fault. fault ≡ fault_of_names told };
+
+    fn from(told: NameFault) -> Fault {
+        match told {
+            NameFault::TooMany | NameFault::Bad | NameFault::Twice => Fault::BadSetting,
+            NameFault::Memory => Fault::Memory,
         }
     }
 }

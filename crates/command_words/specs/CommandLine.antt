@@ -4,7 +4,7 @@ use Rattle.clap.specs.Kinds.{IsAmong, Kinds}
 use Rattle.clap.specs.Simple.{App, Shape, app_of, new_rule, new_shape}
 use Rattle.clap.specs.Values.{kind_of}
 use Rattle.clap.specs.Walk.{Rule, Text}
-use Rattle.clap.specs.declared.builder.action.ArgAction.TheVariants.{Set}
+use Rattle.clap.specs.declared.builder.action.ArgAction.TheVariants.{Append, Set}
 use Rattle.clap.specs.declared.builder.value_parser.ValueParser.TheVariants.{Unsigned}
 use Rattle.clap.specs.declared.builder.command.Command.{Command as Definition}
 use Rattle.clap.specs.declared.builder.command.Command.TheViews.{out-Command}
@@ -18,6 +18,10 @@ use Rattle.command_words.specs.declared.outcome.CommandFault.TheVariants as faul
 -- a word with no name, that has to be there
 abbrev pub place_rule : Text → Rule
 place_rule name = record (new_rule name) { value_names = 1; action = Some Set; required = true }
+
+-- words with no name, of which at least one has to be there
+abbrev pub places_rule : Text → Rule
+places_rule name = record (place_rule name) { action = Some Append }
 
 -- an option `--name` with a text, that has to be there
 abbrev pub text_rule : Text → Rule
@@ -53,6 +57,9 @@ statement_words = words (codes "statement") (store_rule ∷ place_rule (codes "a
 abbrev pub expire_words : Shape
 expire_words = words (codes "expire") (store_rule ∷ [])
 
+abbrev pub operators_words : Shape
+operators_words = words (codes "operators") (store_rule ∷ places_rule (codes "operator") ∷ [])
+
 abbrev pub serve_words : Shape
 serve_words = words (codes "serve")
     (store_rule ∷ number_rule (codes "port") 1 65535 ∷ number_rule (codes "connections") 1 4294967295
@@ -71,12 +78,12 @@ program = record (new_shape (codes "printd")) {
   disable_help_subcommand = true;
 }
 
--- of a store: making it, importing account files, printing statements and ending expired jobs
+-- of a store: making it, importing account files, printing statements, ending expired jobs and naming the operators
 abbrev pub office_subcommands : List Shape
-office_subcommands = init_words ∷ import_words ∷ statement_words ∷ expire_words ∷ []
+office_subcommands = init_words ∷ import_words ∷ statement_words ∷ expire_words ∷ operators_words ∷ []
 
 abbrev pub subcommands : List Shape
-subcommands = init_words ∷ import_words ∷ statement_words ∷ expire_words ∷ serve_words ∷ replay_words ∷ []
+subcommands = init_words ∷ import_words ∷ statement_words ∷ expire_words ∷ operators_words ∷ serve_words ∷ replay_words ∷ []
 
 -- the program with these subcommands
 abbrev pub program_with : List Shape → App

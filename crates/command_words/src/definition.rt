@@ -3,7 +3,7 @@
 ghost use Rattle.std.specs.Prelude.{◌≡◌, ◌∷◌, [], IfOk, false, codes};
 ghost use Rattle.clap.specs.Simple.{App, Shape, with_subcommand};
 ghost use Rattle.clap.specs.Words.{rule_of};
-ghost use Rattle.command_words.specs.CommandLine.{IsApp, IsPart, definition, expire_words, import_words, init_words, number_rule, office_subcommands, optional_rule, place_rule, program, program_with, replay_words, serve_words, statement_words, store_rule, text_rule, words};
+ghost use Rattle.command_words.specs.CommandLine.{IsApp, IsPart, definition, expire_words, import_words, init_words, number_rule, office_subcommands, operators_words, optional_rule, place_rule, places_rule, program, program_with, replay_words, serve_words, statement_words, store_rule, text_rule, words};
 
 use crate::limits::{
     CONNECTIONS, ESTIMATE, KEEP, NumberOption, PORT, TIMEOUT, USUAL_ESTIMATE, USUAL_KEEP,
@@ -23,6 +23,14 @@ fn place<'a>(alloc: Global, name: &'a str, value: &'a str, help: &'a str) -> Arg
         .action(ArgAction::Set)
         .required(true)
         .help(help)
+}
+
+/// Words with no name, at least one.
+fn places<'a>(alloc: Global, name: &'a str, value: &'a str, help: &'a str) -> Arg<'a>
+    ensures rule { rule_of result ≡ places_rule name.entry.now }
+    ensures own { result.global ≡ false }
+{
+    place(alloc, name, value, help).action(ArgAction::Append)
 }
 
 /// An option whose value is a text.
@@ -151,6 +159,17 @@ fn expire<'a>(alloc: Global) -> Result<Definition<'a>, AllocError>
     on_store(alloc, "expire", "End the held jobs that have expired")
 }
 
+fn operators<'a>(alloc: Global) -> Result<Definition<'a>, AllocError>
+    ensures { IfOk result (IsPart operators_words) }
+{
+    on_store(
+        alloc,
+        "operators",
+        "Set the callers who see and cancel any job",
+    )?
+    .arg(places(alloc, "operator", "NAME", "An operator's name"))
+}
+
 /// The option with the port to listen at.
 fn port<'a>(alloc: Global) -> Arg<'a>
     ensures rule { rule_of result ≡ number_rule (codes "port") 1 65535 }
@@ -214,14 +233,15 @@ fn with<'a>(
     command.subcommand(subcommand?)
 }
 
-/// The program with the subcommands that make a store, fill its accounts, print their statements and end expired jobs.
+/// The program with the subcommands that make a store, fill its accounts, print their statements, end expired jobs and set the operators.
 fn for_office<'a>(alloc: Global) -> Result<Definition<'a>, AllocError>
     ensures { IfOk result (IsApp (program_with office_subcommands)) }
 {
     let program = with(bare(alloc), init(alloc))?;
     let program = with(program, import(alloc))?;
     let program = with(program, statement(alloc))?;
-    with(program, expire(alloc))
+    let program = with(program, expire(alloc))?;
+    with(program, operators(alloc))
 }
 
 /// The program and its subcommands.

@@ -8,4 +8,4 @@ mod outcome;
 mod values;
 
 pub use command_line::command;
-pub use outcome::{Command, CommandFault, Expire, Import, Init, Serve, Statement};
+pub use outcome::{Command, CommandFault, Expire, Import, Init, Operators, Serve, Statement};

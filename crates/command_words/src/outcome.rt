@@ -62,8 +62,17 @@ pub struct Expire<'a> {
     pub store: &'a str,
 }
 
+/// The values of `operators`: a store and the names of its operators, which are not checked yet.
+#[derive(Drop)]
+pub struct Operators<'a> {
+    /// The path of the store.
+    pub store: &'a str,
+    /// The names, in the order of the words.
+    pub names: Vec<&'a str>,
+}
+
 /// What the program is to do.
-#[derive(Clone, Copy)]
+#[derive(Drop)]
 pub enum Command<'a> {
     /// Make a new store.
     Init(Init<'a>),
@@ -73,6 +82,8 @@ pub enum Command<'a> {
     Statement(Statement<'a>),
     /// End the held and open jobs that have expired.
     Expire(Expire<'a>),
+    /// Set the operators.
+    Operators(Operators<'a>),
     /// Serve connections.
     Serve(Serve<'a>),
     /// Answer the lines on standard input over a new queue in memory.

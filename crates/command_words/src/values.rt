@@ -1,13 +1,14 @@
 //! The values of a subcommand's arguments.
 
-ghost use Rattle.std.specs.Prelude.{◌≡◌, ◌≤◌};
+ghost use Rattle.std.specs.Prelude.{◌≡◌, ◌≤◌, IfOk, map};
 ghost use Rattle.std.specs.Int.NonZero.{non_zero_u32_get};
 ghost use Rattle.clap.specs.Words.{found_of, rows_of};
-ghost use Rattle.command_words.specs.Values.{IsNumberAt, IsInit, IsServe, IsImport, IsStatement, IsExpire, text_at};
+ghost use Rattle.command_words.specs.Values.{IsNumberAt, IsInit, IsServe, IsImport, IsStatement, IsExpire, IsOperators, text_at, texts_at};
 
 use crate::limits::{CONNECTIONS, ESTIMATE, KEEP, NumberOption, PORT, TIMEOUT};
-use crate::outcome::{Expire, Import, Init, Serve, Statement};
+use crate::outcome::{Expire, Import, Init, Operators, Serve, Statement};
 use clap::ArgMatches;
+use std::alloc::{AllocError, Global};
 use std::num::NonZeroU32;
 
 /// The value of an argument. Words that leave it out are refused before; the empty text stands for it.
@@ -15,6 +16,20 @@ fn text_of<'a>(matches: &ArgMatches<'a>, id: &str) -> &'a str
     ensures { result.now ≡ text_at id.now (rows_of (found_of matches.now)) }
 {
     matches.get_str(id).unwrap_or("")
+}
+
+/// The values of an argument that may have several.
+fn texts_of<'a>(
+    alloc: Global,
+    matches: &ArgMatches<'a>,
+    id: &str,
+) -> Result<Vec<&'a str>, AllocError>
+    ensures { IfOk result (λ v. map (λ t. t.now) v.items ≡ texts_at id.now (rows_of (found_of matches.now))) }
+{
+    match matches.get_strs(id) {
+        Some(texts) => Vec::from_slice(alloc, texts),
+        None => Ok(Vec::new(alloc)),
+    }
 }
 
 /// The value of an option that takes a number, within its limits. Words with another number are refused before; the least stands for it.
@@ -93,4 +108,17 @@ pub(crate) fn expire_of<'a>(matches: &ArgMatches<'a>) -> Expire<'a>
     Expire {
         store: text_of(matches, "store"),
     }
+}
+
+/// What `operators` is asked for.
+pub(crate) fn operators_of<'a>(
+    alloc: Global,
+    matches: &ArgMatches<'a>,
+) -> Result<Operators<'a>, AllocError>
+    ensures { IfOk result (IsOperators (rows_of (found_of matches.now))) }
+{
+    Ok(Operators {
+        store: text_of(matches, "store"),
+        names: texts_of(alloc, matches, "operator")?,
+    })
 }

@@ -7,11 +7,13 @@ use Rattle.queue_core.specs.declared.book.BookFault.TheVariants as book
 use Rattle.office.specs.declared.fault.OfficeFault.{OfficeFault}
 use Rattle.office.specs.declared.fault.OfficeFault.TheVariants as office
 use Rattle.office.specs.Faults.{IsOfFile, IsOfStream as IsOfOfficeStream, fault_of_book as office_fault_of_book}
-use Rattle.command_ends.specs.Faults.{IsOfStream, fault_of_book, fault_of_office}
+use Rattle.command_ends.specs.Faults.{IsOfStream, fault_of_book, fault_of_names, fault_of_office}
 use Rattle.command_ends.specs.declared.fault.Fault.{Fault}
-use Rattle.command_ends.specs.declared.fault.Fault.TheVariants.{Damaged, NoAccount, Import}
+use Rattle.command_ends.specs.declared.fault.Fault.TheVariants.{BadSetting, Damaged, NoAccount, Import}
+use Rattle.queue_types.specs.declared.operators.NameFault.{NameFault}
+use Rattle.queue_types.specs.declared.operators.NameFault.TheVariants as names
 use Rattle.commands.specs.Store.{IsOfStore}
-use Rattle.commands.specs.Refusals.{IsOfExpire, IsOfImport, IsOfNoAccount, IsOfServe, IsOfStatement}
+use Rattle.commands.specs.Refusals.{IsOfExpire, IsOfImport, IsOfNoAccount, IsOfOperators, IsOfServe, IsOfStatement}
 use Rattle.print_server.specs.declared.fault.ServerFault.{ServerFault}
 use Rattle.print_server.specs.declared.fault.ServerFault.TheVariants as server
 
@@ -99,6 +101,16 @@ of_expire told fault is why = elim why [
   | inl stream ↦ of_expire_stream fault (of_stream told fault is stream)
   | inr by_book ↦ inl (of_book by_book.0 fault (is ∙ ap fault_of_office by_book.1 ∙ told_of_book by_book.0))
 ]
+
+-- names are refused for want of memory, or as a bad setting
+pub of_names : (told : NameFault) (fault : Fault) → fault ≡ fault_of_names told → IsOfOperators fault ⊎ (fault ≡ BadSetting)
+of_names names.Memory fault is = inl (inl (inl is))
+of_names names.TooMany fault is = inr is
+of_names names.Bad fault is = inr is
+of_names names.Twice fault is = inr is
+
+pub of_operators : (fault : Fault) → IsOfStore fault ⊎ IsOfOperators fault → IsOfOperators fault ⊎ (fault ≡ BadSetting)
+of_operators fault told = elim told [ inl store ↦ inl (inl store) | inr other ↦ inl other ]
 
 pub of_serve_stream : (fault : Fault) → IsOfStream fault → IsOfServe fault
 of_serve_stream fault stream = elim stream [ inl e ↦ inl (inl e) | inr e ↦ inr e ]

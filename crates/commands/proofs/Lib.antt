@@ -1,6 +1,7 @@
 pub mod CrashLemmas
 pub mod EndingLemmas
 pub mod FaultLemmas
+pub mod NameLemmas
 pub mod PrintedLemmas
 pub mod StoreLemmas
 pub mod WorkLemmas

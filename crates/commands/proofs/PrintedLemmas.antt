@@ -13,12 +13,13 @@ use Rattle.replay.specs.Session.{State}
 use Rattle.commands.specs.Printed.{HasPrinted, Prints}
 use Rattle.commands.specs.Refusals.{IsTold, MayBePrintedBy, MayBeToldBy}
 use Rattle.commands.specs.declared.work.Work.{Work}
-use Rattle.commands.specs.declared.work.Work.TheVariants.{Import, Expire}
+use Rattle.commands.specs.declared.work.Work.TheVariants.{Import, Expire, Operators}
 
 -- what was printed stays as it is where the writer is flushed
 pub prints_kept : (work : Work) (a b c : Option (List ℕ)) → Keeps b c → Prints work a b → Prints work a c
 prints_kept (Import words) a b c kept p = (p.0, Appends-kept a b c _ p.1 kept)
 prints_kept (Expire words) a b c kept p = (p.0, Appends-kept a b c _ p.1 kept)
+prints_kept (Operators work) a b c kept p = Appends-kept a b c _ p kept
 prints_kept _ a b c kept p = (p.0, p.1, Appends-kept a b c _ p.2 kept)
 
 -- a replay printed the answers to the lines of its input

@@ -23,6 +23,7 @@ at_any_second words a b s = record {
   name_utf8 = s.name_utf8;
   estimate_fits = s.estimate_fits;
   keep_fits = s.keep_fits;
+  operators_fit = s.operators_fit;
 }
 
 pub is_bad : (told : SettingFault) → fault_of_setting told ≡ BadSetting → told ≡ setting.Bad

@@ -12,7 +12,7 @@ use Rattle.grants_csv.specs.declared.fault.ImportFault.{ImportFault}
 use Rattle.commands.specs.Printed.{HasPrinted, server_lines}
 use Rattle.commands.specs.Store.{IsOfStore}
 use Rattle.commands.specs.declared.work.Work.{Work}
-use Rattle.commands.specs.declared.work.Work.TheVariants.{Import, Statement, Expire, Serve}
+use Rattle.commands.specs.declared.work.Work.TheVariants.{Import, Statement, Expire, Operators, Serve}
 
 -- a store that isn't made is told so: none can be made at its path, a setting is not within its limits, or the clock can't be read
 abbrev pub IsOfInit : Fault → Type 0
@@ -30,6 +30,10 @@ IsOfStatement fault = IsOfStore fault ⊎ (fault ≡ NoAccount) ⊎ (fault ≡ I
 abbrev pub IsOfExpire : Fault → Type 0
 IsOfExpire fault = IsOfStore fault ⊎ (fault ≡ Io)
 
+-- why the operators aren't set, or their number isn't printed: the store can't be read or written or holds no queue, or the output failed
+abbrev pub IsOfOperators : Fault → Type 0
+IsOfOperators fault = IsOfStore fault ⊎ (fault ≡ Io)
+
 -- connections that aren't served are told so: the store can't be read any more or holds no queue, or the port, a connection, the clock or the output failed
 abbrev pub IsOfServe : Fault → Type 0
 IsOfServe fault = IsOfStore fault ⊎ (fault ≡ Io)
@@ -39,6 +43,7 @@ abbrev pub MayBeToldOf : Work → Fault → Type 0
 MayBeToldOf (Import words) = IsOfImport
 MayBeToldOf (Statement words) = IsOfStatement
 MayBeToldOf (Expire words) = IsOfExpire
+MayBeToldOf (Operators work) = IsOfOperators
 MayBeToldOf (Serve words) = IsOfServe
 
 -- an account to which nothing was ever granted is told so, unless there was no memory or the disk failed
@@ -55,6 +60,7 @@ MayBeToldBy (command.Init words) fault = IsOfInit fault
 MayBeToldBy (command.Import words) fault = IsOfStore fault ⊎ IsOfImport fault
 MayBeToldBy (command.Statement words) fault = IsOfStatement fault
 MayBeToldBy (command.Expire words) fault = IsOfExpire fault
+MayBeToldBy (command.Operators words) fault = IsOfOperators fault ⊎ (fault ≡ BadSetting)
 MayBeToldBy (command.Serve words) fault = IsOfServe fault
 MayBeToldBy command.Replay fault = IsOfReplay fault
 
@@ -67,6 +73,7 @@ abbrev pub MayBePrintedOf : Work → Option (List ℕ) → Option (List ℕ) →
 MayBePrintedOf (Import words) before after = after ≡ before
 MayBePrintedOf (Statement words) before after = after ≡ before
 MayBePrintedOf (Expire words) before after = after ≡ before
+MayBePrintedOf (Operators work) before after = after ≡ before
 MayBePrintedOf (Serve words) before after = (after ≡ before) ⊎ HasListened words before after
 
 -- what a command that is refused has printed, where no stream failed and there was memory; of a replay that can't go on nothing is said
@@ -75,6 +82,7 @@ MayBePrintedBy (command.Init words) before after = after ≡ before
 MayBePrintedBy (command.Import words) before after = MayBePrintedOf (Import words) before after
 MayBePrintedBy (command.Statement words) before after = MayBePrintedOf (Statement words) before after
 MayBePrintedBy (command.Expire words) before after = MayBePrintedOf (Expire words) before after
+MayBePrintedBy (command.Operators words) before after = after ≡ before
 MayBePrintedBy (command.Serve words) before after = MayBePrintedOf (Serve words) before after
 MayBePrintedBy command.Replay before after = ⊤
 

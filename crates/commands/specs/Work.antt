@@ -13,6 +13,7 @@ use Rattle.print_server.specs.Connections.{AreConnections, IsAtMostOneMore}
 use Rattle.queue_core.specs.Limits.{IsMoment}
 use Rattle.queue_core.specs.Shown.{sheet_of}
 use Rattle.queue_core.specs.World.{World}
+use Rattle.queue_tables.specs.Steps.{with_operators}
 use Rattle.queue_types.specs.declared.sheet.AccountSheet.{AccountSheet}
 use Rattle.queue_store.specs.Closed.{KeepAlone}
 use Rattle.queue_store.specs.Kept.{IsHonest, StandsFor, shown_by}
@@ -23,10 +24,11 @@ use Rattle.sqlite_disk.specs.declared.Files.{Files}
 use Rattle.sqlite_store.specs.declared.store.FileStore.{FileStore}
 use Rattle.sqlite_trees.specs.declared.store.Store.{Ghosts}
 use Rattle.commands.specs.Books.{KeepBeside, LeavesBeside, MakesSafely}
-use Rattle.commands.specs.Printed.{Prints, server_lines}
+use Rattle.commands.specs.Printed.{Prints, operators_line, server_lines}
 use Rattle.commands.specs.Refusals.{IsOfNoAccount, MayBePrintedOf, MayBeToldOf}
+use Rattle.commands.specs.declared.work.NewOperators.{NewOperators}
 use Rattle.commands.specs.declared.work.Work.{Work}
-use Rattle.commands.specs.declared.work.Work.TheVariants.{Import, Statement, Expire, Serve}
+use Rattle.commands.specs.declared.work.Work.TheVariants.{Import, Statement, Expire, Operators, Serve}
 
 -- an account file was opened, and these bytes are read of it, as far as its reader tells what it has
 abbrev pub AreReadIn : {R E : Type 0} → (R → Option (List ℕ)) → Result R E → List ℕ → Type 0
@@ -92,13 +94,18 @@ HasSweep w u = (n : ℕ) × IsSweep w u n
 abbrev pub PrintsSweep : World → World → Option (List ℕ) → Option (List ℕ) → Type 0
 PrintsSweep w u before after = (n : ℕ) × IsSweep w u n × Appends before after (expired_line n)
 
+-- the second queue is the first with these operators
+abbrev pub AreSet : NewOperators → World → World → Type 0
+AreSet work w u = u ≡ with_operators work.operators.now w
+
 -- it made the second queue of the first, and what was written is the output then, where that was the output before:
 -- the rows of an account file are taken, and what became of them is told; the statement of the account is printed, and the
--- queue stays as it is; the expired jobs end, and their number is printed; so many connections are served, one after the other
+-- queue stays as it is; the expired jobs end, and their number is printed; the operators are set, and their number is printed; so many connections are served, one after the other
 abbrev pub IsDone : (List ℕ → Type 0) → Work → World → World → Option (List ℕ) → Option (List ℕ) → Type 0
 IsDone are_read (Import words) w u before after = TellsImport are_read w u before after
 IsDone are_read (Statement words) w u before after = (u ≡ w) × PrintsStatement w words.account.now before after
 IsDone are_read (Expire words) w u before after = PrintsSweep w u before after
+IsDone are_read (Operators work) w u before after = AreSet work w u × Appends before after (operators_line (length work.operators.now))
 IsDone are_read (Serve words) w u before after =
     (counts : List ℕ) × AreConnections w counts u × (length counts ≡ words.connections) × Appends before after (server_lines words counts)
 
@@ -121,6 +128,11 @@ pub record IsNoSweep (fault : Fault) (w u : World) (before after : Option (List 
   pub undamaged : fault ≢ Damaged
   pub left : (u ≡ w) × (after ≡ before) ⊎ (IsOfStream fault × HasSweep w u)
 
+-- the operators stay and nothing is printed; or they are set, and then a stream failed, so that their number may not be printed
+pub record AreNotSet (work : NewOperators) (fault : Fault) (w u : World) (before after : Option (List ℕ)) : Type 0 where
+  pub undamaged : fault ≢ Damaged
+  pub left : (u ≡ w) × (after ≡ before) ⊎ (IsOfStream fault × AreSet work w u)
+
 -- a server stops: no more than so many connections are served, and each is told of but where a stream failed
 pub record IsNoService (words : ServeWords) (fault : Fault) (w u : World) (before after : Option (List ℕ)) : Type 0 where
   pub undamaged : fault ≢ Damaged
@@ -134,6 +146,7 @@ abbrev pub IsNotDone : (List ℕ → Type 0) → Work → Fault → World → Wo
 IsNotDone are_read (Import words) fault w u before after = IsNoImport are_read fault w u before after
 IsNotDone are_read (Statement words) fault w u before after = IsNoStatement words.account.now fault w u before after
 IsNotDone are_read (Expire words) fault w u before after = IsNoSweep fault w u before after
+IsNotDone are_read (Operators work) fault w u before after = AreNotSet work fault w u before after
 IsNotDone are_read (Serve words) fault w u before after = IsNoService words fault w u before after
 
 -- of the queue w all of something is taken, or nothing: nothing is, u is w, and a crash leaves u; all is taken in u, and a crash leaves u; or taking it was
@@ -152,12 +165,13 @@ abbrev pub IsSweepOrNone : World → World → World → Type 0
 IsSweepOrNone w u x = IsAllOrNone (HasSweep w) w u x
 
 -- it made u of the queue w, and a crash at any moment leaves u or x:
--- all rows of an account file are taken, or none; a statement leaves the queue as it is; all expired jobs end, or none; no more than so many connections are
+-- all rows of an account file are taken, or none; a statement leaves the queue as it is; all expired jobs end, or none; the operators are set, or not; no more than so many connections are
 -- served, and x is u or what one request of theirs, which a fault answered, or one sweep before them, which met a fault, makes of it
 abbrev pub MayBeLeft : (List ℕ → Type 0) → Work → World → World → World → Type 0
 MayBeLeft are_read (Import words) w u x = IsFileOrNone are_read w u x
 MayBeLeft are_read (Statement words) w u x = (u ≡ w) × (x ≡ u)
 MayBeLeft are_read (Expire words) w u x = IsSweepOrNone w u x
+MayBeLeft are_read (Operators work) w u x = IsAllOrNone (AreSet work w) w u x
 MayBeLeft are_read (Serve words) w u x =
     (counts : List ℕ) × (are : AreConnections w counts u) × (length counts ≤ words.connections) × IsAtMostOneMore w counts u are x
 
@@ -166,6 +180,7 @@ abbrev pub IsBrief : Work → Type 0
 IsBrief (Import words) = ⊤
 IsBrief (Statement words) = ⊤
 IsBrief (Expire words) = ⊤
+IsBrief (Operators work) = ⊤
 IsBrief (Serve words) = ⊥
 
 -- what is told of work that was refused, and printed: a fault that may be told of it, and what may be printed then
@@ -222,4 +237,5 @@ abbrev pub store_of : Work → List ℕ
 store_of (Import words) = words.store.now
 store_of (Statement words) = words.store.now
 store_of (Expire words) = words.store.now
+store_of (Operators work) = work.store.now
 store_of (Serve words) = words.store.now

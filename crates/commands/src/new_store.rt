@@ -19,6 +19,7 @@ use crate::store::{Closed, FileBook, close, let_go};
 use command_ends::Fault;
 use command_words::Init;
 use queue_store::TableBook;
+use queue_types::operators::OperatorNames;
 use queue_types::settings::Settings;
 use sqlite_disk::Disk;
 use sqlite_std_file::{FileFrom, Start};
@@ -49,6 +50,7 @@ fn new_settings<C: Clock>(alloc: Global, clock: &C, words: Init<'_>) -> Result<S
         words.estimate,
         epoch,
         words.keep,
+        OperatorNames::none(alloc),
     )?;
     Ok(settings)
 }

@@ -4,8 +4,9 @@ ghost use Rattle.std.specs.Io.KnownBytes.{Appends};
 ghost use Rattle.command_ends.specs.Faults.{IsOfStream};
 ghost use Rattle.command_ends.specs.declared.fault.Fault.TheVariants.{Damaged, NoAccount, Import as ByFile};
 ghost use Rattle.commands.specs.Books.{LeavesBeside, Makes, MakesSafely};
-ghost use Rattle.commands.specs.Refusals.{IsOfExpire, IsOfImport, IsOfNoAccount, IsOfStatement};
-ghost use Rattle.commands.specs.Work.{AreIn, HasImport, HasSweep, IsAllOrNone, IsFileOrNone, IsOfFile, IsRefusedAt, IsSweepOrNone, IsTakenAt, PrintsStatement, PrintsSweep, TellsImport};
+ghost use Rattle.commands.specs.Refusals.{IsOfExpire, IsOfImport, IsOfNoAccount, IsOfOperators, IsOfStatement};
+ghost use Rattle.commands.specs.Printed.{operators_line};
+ghost use Rattle.commands.specs.Work.{AreIn, AreSet, HasImport, HasSweep, IsAllOrNone, IsFileOrNone, IsOfFile, IsRefusedAt, IsSweepOrNone, IsTakenAt, PrintsStatement, PrintsSweep, TellsImport};
 ghost use Rattle.grants_csv.specs.Fault.{fault};
 ghost use Rattle.grants_csv.specs.File.{rows_of};
 ghost use Rattle.grants_csv.specs.declared.fault.ImportFault.{ImportFault};
@@ -19,6 +20,7 @@ ghost use Rattle.queue_types.specs.declared.sheet.AccountSheet.{AccountSheet as 
 ghost use Rattle.queue_store.specs.Kept.{IsHonest, StandsFor, shown_by};
 ghost use Rattle.queue_tables.specs.Content.{LeavesOneOf};
 
+use crate::work::NewOperators;
 use command_ends::Fault;
 use office::{expire_jobs, import_bytes, print_statement};
 use print_server::present_moment;
@@ -156,4 +158,39 @@ pub(crate) fn expire_in<C: Clock, S: Alter, W: Write>(
     let now = moment_of(clock, book)?;
     expire_jobs(output, book, now)?;
     Ok(())
+}
+
+/// Writes `operators N`.
+fn tell_operators<W: Write>(output: &mut W, number: usize) -> Result<(), Fault>
+    ensures told { OnOk result (Appends (W.contents output.old) (W.contents output.new) (operators_line number)) }
+    ensures failed { IfErr result IsOfStream }
+{
+    writeln!(output, "operators {number}")?;
+    Ok(())
+}
+
+/// Sets the operators of a book, and prints `operators N`, N how many they are. An error leaves the queue as it was, and nothing is printed, unless the
+/// operators were set and the line could not be written.
+pub(crate) fn set_operators_in<S: Alter, W: Write>(
+    work: NewOperators<'_>,
+    output: &mut W,
+    book: &mut TableBook<S>,
+) -> Result<(), Fault>
+    ensures began { IsHonest S.Store book.new → IsHonest S.Store book.old }
+    // these two: whatever it answers, a crash at any moment leaves the operators set, or as they were
+    ensures set { IsHonest S.Store book.new → OnOk result (MakesSafely S.Store book.old book.new
+        (λ w u. AreSet work.entry w u × Appends (W.contents output.old) (W.contents output.new) (operators_line (length work.entry.operators.now)))
+        (λ w. IsAllOrNone (AreSet work.entry w) w)) }
+    ensures left { IsHonest S.Store book.new → IfErr result (λ f. MakesSafely S.Store book.old book.new
+        (λ w u. (u ≡ w) × (output.new ≡ output.old) ⊎ (IsOfStream f × AreSet work.entry w u)) (λ w. IsAllOrNone (AreSet work.entry w) w)) }
+    ensures damaged { IsHonest S.Store book.new → IfErr result (λ f. f ≡ Damaged → (w : World) → ¬ StandsFor S.Store book.old w) }
+    ensures live { IsHonest S.Store book.new → OnOk result (IsTrue (shown_by S.Store book.new).is_open) }
+    ensures told { IfErr result IsOfOperators }
+    // over any book, also one that is not honest
+    ensures written { OnOk result (Appends (W.contents output.old) (W.contents output.new) (operators_line (length work.entry.operators.now))) }
+    // a stream failed or there was no memory, or nothing was written
+    ensures quiet { IfErr result (λ f. IsOfStream f ⊎ (output.new ≡ output.old)) }
+{
+    book.set_operators(work.operators)?;
+    tell_operators(output, work.operators.len())
 }

@@ -7,16 +7,16 @@ ghost use Rattle.command_ends.specs.Texts.{Tells};
 ghost use Rattle.command_ends.specs.declared.fault.Fault.{Fault as ToldFault};
 ghost use Rattle.command_ends.specs.declared.fault.Fault.TheVariants.{Memory as OfMemory};
 ghost use Rattle.command_words.specs.declared.outcome.Command.{Command as NamedCommand};
-ghost use Rattle.command_words.specs.declared.outcome.Init.{Init as InitWords};
 ghost use Rattle.commands.specs.Printed.{HasPrinted, Prints};
 ghost use Rattle.commands.specs.Refusals.{IsOfInit, IsOfReplay, IsTold, MayBePrintedBy, MayBePrintedOf, MayBeToldBy, MayBeToldOf};
-ghost use Rattle.commands.specs.Store.{CanBeMade, IsAllowed, IsOfStore};
+ghost use Rattle.commands.specs.Store.{CanBeMade, CanBeOperators, IsAllowed, IsOfStore, names_of};
 ghost use Rattle.commands.specs.Words.{AreWrong, AskForText, NameCommand, faults_of};
 
 use crate::new_store::make_and_let_go;
-use crate::work::{Work, work_and_let_go};
+use crate::work::{NewOperators, Work, work_and_let_go};
 use command_ends::{DONE, Fault, end, tell_words};
-use command_words::{Command, CommandFault, Init, command};
+use command_words::{Command, CommandFault, Init, Operators, command};
+use queue_types::operators::operator_names;
 use replay_in_memory::replay;
 use sqlite_std_file::Wary;
 use std::alloc::Global;
@@ -61,6 +61,29 @@ fn do_work<O: Write + Drop>(
     Ok(DONE)
 }
 
+/// Sets the operators of the store that is at the path of the words, as [`do_work`] does. Names that can't be those of operators are refused before the
+/// store is looked at.
+fn do_operators<O: Write + Drop>(
+    rt: &HostRuntime,
+    words: &Operators<'_>,
+    out: &mut BufWriter<O>,
+) -> Result<u8, Fault>
+    ensures status { IfOk result (λ status. status ≡ 0) }
+    ensures allowed { OnOk result (CanBeOperators (names_of words.now)) }
+    ensures printed { OnOk result (HasPrinted (Command.Operators words.now) 0 (writer_contents O.contents out.old) (writer_contents O.contents out.new)) }
+    ensures handed { OnOk result (writer_buffer out.new ≡ []) }
+    ensures told { IfErr result (MayBeToldBy (Command.Operators words.now)) }
+    // a stream failed or there was no memory, or nothing was printed
+    ensures quiet { IfErr result (λ f. IsOfStream f ⊎ (writer_contents O.contents out.new ≡ writer_contents O.contents out.old)) }
+{
+    let operators = operator_names(rt.alloc(), words.names.as_slice())?;
+    let work = NewOperators {
+        store: words.store,
+        operators: &operators,
+    };
+    do_work(rt, Work::Operators(work), out)
+}
+
 /// Answers the lines of an input over a new queue in memory, flushes the answers, and gives the exit status. It has no way to files, nor to
 /// streams but these.
 fn do_replay<R: Read, O: Write + Drop>(
@@ -90,7 +113,7 @@ fn do_command<O: Write + Drop>(
     // a stream failed or there was no memory, or no more was printed than may be
     ensures quiet { IfErr result (λ f. IsOfStream f ⊎ MayBePrintedBy command.entry (writer_contents O.contents out.old) (writer_contents O.contents out.new)) }
     // whatever its files hold
-    ensures made { (words : InitWords) → command.entry ≡ Command.Init words → OnOk result (CanBeMade words) }
+    ensures allowed { OnOk result (IsAllowed command.entry) }
     ensures printed { IfOk result (λ status. HasPrinted command.entry status (writer_contents O.contents out.old) (writer_contents O.contents out.new)) }
     ensures handed { OnOk result (writer_buffer out.new ≡ []) }
 {
@@ -99,6 +122,7 @@ fn do_command<O: Write + Drop>(
         Command::Import(words) => do_work(rt, Work::Import(words), out),
         Command::Statement(words) => do_work(rt, Work::Statement(words), out),
         Command::Expire(words) => do_work(rt, Work::Expire(words), out),
+        Command::Operators(words) => do_operators(rt, &words, out),
         Command::Serve(words) => do_work(rt, Work::Serve(words), out),
         Command::Replay => do_replay(rt.alloc(), &mut rt.reader(), out),
     }

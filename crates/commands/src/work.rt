@@ -14,7 +14,7 @@ ghost use Rattle.commands.specs.Printed.{Prints};
 ghost use Rattle.commands.specs.Refusals.{MayBePrintedOf, MayBeToldOf};
 ghost use Rattle.commands.specs.Work.{AreAny, AreIn, AreReadIn, HasEnded, IsBrief, IsDoneFrom, IsDoneOn, IsKeptFrom, IsRefusal, IsRefusedFrom, IsRefusedOver, store_of};
 
-use crate::office_commands::{expire_in, import_into, print_from};
+use crate::office_commands::{expire_in, import_into, print_from, set_operators_in};
 use crate::serving::serve_book;
 use crate::store::{Closed, FileBook, close, left, let_go, open_store};
 use command_ends::Fault;
@@ -22,6 +22,7 @@ use command_words::{Expire, Import, Serve, Statement};
 use office::read_account_file;
 use print_server::listen;
 use queue_store::TableBook;
+use queue_types::operators::OperatorNames;
 use sqlite::Alter;
 use sqlite_disk::{Disk, Files};
 use sqlite_std_file::{FileFrom, Start};
@@ -33,6 +34,14 @@ use std::net::TcpListener;
 use std::rt::{Clock, HostRuntime};
 use std::{fs, io};
 
+/// The operators that a store is to have.
+#[derive(Clone, Copy)]
+pub(crate) struct NewOperators<'a> {
+    /// The path of the store.
+    pub(crate) store: &'a str,
+    pub(crate) operators: &'a OperatorNames,
+}
+
 /// What a command does on a store that is there.
 #[derive(Clone, Copy)]
 pub(crate) enum Work<'a> {
@@ -42,6 +51,8 @@ pub(crate) enum Work<'a> {
     Statement(Statement<'a>),
     /// Ends the held and open jobs that have expired, all of them or none, and prints `expired N`.
     Expire(Expire<'a>),
+    /// Sets the operators, and prints `operators N`.
+    Operators(NewOperators<'a>),
     /// Listens on a port, prints `listening 127.0.0.1:P`, and serves connections.
     Serve(Serve<'a>),
 }
@@ -62,6 +73,7 @@ impl<'a> Work<'a> {
             Work::Import(words) => words.store,
             Work::Statement(words) => words.store,
             Work::Expire(words) => words.store,
+            Work::Operators(work) => work.store,
             Work::Serve(words) => words.store,
         }
     }
@@ -74,7 +86,7 @@ impl<'a> Work<'a> {
         };
         match self {
             Work::Import(words) => opened.file = fs::open(rt, words.file),
-            Work::Statement(_) | Work::Expire(_) => {}
+            Work::Statement(_) | Work::Expire(_) | Work::Operators(_) => {}
             Work::Serve(words) => opened.listener = listen(rt, words.port),
         }
         opened
@@ -104,6 +116,7 @@ fn work_on<C: Clock, S: Alter, W: Write>(
         Work::Import(_) => import_into(alloc, clock, file, output, book),
         Work::Statement(words) => print_from(alloc, words.account, output, book),
         Work::Expire(_) => expire_in(clock, output, book),
+        Work::Operators(work) => set_operators_in(work, output, book),
         Work::Serve(words) => serve_book(alloc, clock, words, listener, output, book),
     }
 }

@@ -1,11 +1,12 @@
 -- What a connection leaves of the grants: neither a request nor a report grants pages.
 use Rattle.std.proofs.Common.{◌≡◌, ◌∙◌, ℕ, List, [], ◌∷◌, Ok, Err, Bool, refl, ap, true, false, cond}
-use Rattle.std.specs.Prelude.{Option, Some, None, Result, bytes_eq, fold}
+use Rattle.std.specs.Prelude.{Option, Some, None, Result, bytes_eq, fold, ◌||◌}
 use Rattle.std.specs.List.{list_all}
 use Rattle.queue_types.specs.Job.{estimate}
 use Rattle.queue_types.specs.Event.{Call, Decision, NewDocument, ask, tell, print_job, validate_job, create_job, send_document, cancel_job, cancel_my_jobs, hold_job, release_job, get_job_attributes, get_jobs, get_printer_attributes}
 use Rattle.queue_core.specs.World.{World, cut, put_grant}
-use Rattle.queue_core.specs.Machine.{step, call_row, answered, refused, becomes, entered, new_job, new_document, new_refusal, unless_refused, validate_job_row, canceled, is_cancelable, cancel_row, all_canceled, are_there, cancel_my_jobs_row, is_sendable, document_sent, send_in, hold_in, has_pages, let_print, release_in, of_own, accepted_where, report_row}
+use Rattle.queue_types.specs.Operators.{is_operator}
+use Rattle.queue_core.specs.Machine.{step, call_row, answered, refused, becomes, entered, new_job, new_document, new_refusal, unless_refused, validate_job_row, canceled_by, cause, is_cancelable, cancel_row, all_canceled, are_there, cancel_my_jobs_row, is_sendable, document_sent, send_in, hold_in, has_pages, let_print, release_in, of_own, of_seen, accepted_where, report_row}
 use Rattle.queue_types.specs.declared.job.Job.{Job}
 use Rattle.queue_types.specs.declared.job.Phase.TheVariants.{Waiting}
 use Rattle.queue_types.specs.declared.event.Reply.TheVariants.{Jobs, Done, Told, NotTold}
@@ -41,6 +42,10 @@ own_grantless : (caller : List ℕ) (row : Job → Decision) (js : List Job) →
 own_grantless caller row [] each = refl
 own_grantless caller row (j ∷ js) each = elim (bytes_eq j.owner caller) as (λ b. IsGrantless (cond b (row j) (refused 0x0406))) [ true ↦ each j | false ↦ refl ]
 
+seen_grantless : (operators : List (List ℕ)) (caller : List ℕ) (row : Job → Decision) (js : List Job) → ((j : Job) → IsGrantless (row j)) → IsGrantless (of_seen operators caller row js)
+seen_grantless operators caller row [] each = refl
+seen_grantless operators caller row (j ∷ js) each = elim (bytes_eq j.owner caller || is_operator operators caller) as (λ (b : Bool). IsGrantless (cond b (row j) (refused 0x0406))) [ true ↦ each j | false ↦ refl ]
+
 let_grantless : (s : Scene) (j : Job) → IsGrantless (let_print s j)
 let_grantless s j = elim (has_pages s.free (estimate j)) as (λ b. IsGrantless (cond b (becomes s (record j { hold = false })) (refused 0x0404))) [ true ↦ refl | false ↦ refl ]
 
@@ -69,13 +74,14 @@ row_grantless s now caller (validate_job j) = valid_grantless s
 row_grantless s now caller (create_job j) = enters_grantless s (new_job s now caller true j []) None
 row_grantless s now caller (send_document n format payload last) = own_grantless caller (λ j. send_in s j format payload last) s.jobs (λ j.
     elim (is_sendable j payload) as (λ b. IsGrantless (cond b (document_sent s j format payload last) (refused 0x0404))) [ true ↦ refl | false ↦ refl ])
-row_grantless s now caller (cancel_job n) = own_grantless caller (λ j. cancel_row s now j) s.jobs (λ j. elim (is_cancelable j) as (λ b. IsGrantless (cond b (becomes s (canceled now j)) (refused 0x0404))) [ true ↦ refl | false ↦ refl ])
+row_grantless s now caller (cancel_job n) = seen_grantless s.settings.operators caller (λ j. cancel_row s now (cause caller j) j) s.jobs (λ j.
+    elim (is_cancelable j) as (λ b. IsGrantless (cond b (becomes s (canceled_by (cause caller j) now j)) (refused 0x0404))) [ true ↦ refl | false ↦ refl ])
 row_grantless s now caller (cancel_my_jobs None) = refl
 row_grantless s now caller (cancel_my_jobs (Some numbers)) = named_grantless s now numbers
 row_grantless s now caller (hold_job n) = own_grantless caller (λ j. hold_in j.phase s j) s.jobs (held_grantless s)
 row_grantless s now caller (release_job n) = own_grantless caller (λ j. release_in j.phase s j) s.jobs (released_grantless s)
-row_grantless s now caller (get_job_attributes n) = own_grantless caller (λ j. answered (Jobs (j ∷ []))) s.jobs (λ j. refl)
-row_grantless s now caller (get_jobs which limit) = refl
+row_grantless s now caller (get_job_attributes n) = seen_grantless s.settings.operators caller (λ j. answered (Jobs (j ∷ []))) s.jobs (λ j. refl)
+row_grantless s now caller (get_jobs which limit mine) = refl
 row_grantless s now caller get_printer_attributes = refl
 
 -- ---- a report

@@ -1,7 +1,7 @@
 -- What the code of a reply tells: 0x0505 stands for a fault alone, which no check and no answer of the machine has, and a
 -- reply of the machine that refuses leaves the world.
 use Rattle.std.proofs.Common.{◌≡◌, ℕ, List, [], ◌∷◌, ◌++◌, Bool, true, false, refl, ap, sym, ◌∙◌, subst, Ok, Err}
-use Rattle.std.specs.Prelude.{Option, Some, None, if◌then◌else◌, ⊤, ◌==◌, nat_le, nat_lt, map, bytes_eq}
+use Rattle.std.specs.Prelude.{Option, Some, None, if◌then◌else◌, ⊤, ◌==◌, ◌||◌, nat_le, nat_lt, map, bytes_eq}
 use Rattle.std.specs.List.{list_all}
 use Rattle.std.specs.Option.{ok_or}
 use Rattle.std.specs.Result.{result_err}
@@ -16,7 +16,8 @@ use Rattle.queue_types.specs.declared.event.Reply.{Reply}
 use Rattle.queue_types.specs.declared.event.Reply.TheVariants.{Refused, Done, Jobs, Printer}
 use Rattle.queue_types.specs.declared.event.Scene.{Scene}
 use Rattle.queue_types.specs.Event.{Call, Change, Decision, ask, print_job, validate_job, create_job, send_document, cancel_job, cancel_my_jobs, hold_job, release_job, get_job_attributes, get_jobs, get_printer_attributes}
-use Rattle.queue_core.specs.Machine.{call_row, cancel_row, canceled, is_cancelable, all_canceled, are_there, cancel_my_jobs_row, hold_in, let_print, release_in, is_sendable, document_sent, send_in, becomes, of_own, entered, answered, new_job, new_document, unless_refused, no_change, refused as refused_row}
+use Rattle.queue_types.specs.Operators.{is_operator}
+use Rattle.queue_core.specs.Machine.{call_row, cancel_row, canceled_by, cause, is_cancelable, all_canceled, are_there, cancel_my_jobs_row, hold_in, let_print, release_in, is_sendable, document_sent, send_in, becomes, of_own, of_seen, entered, answered, new_job, new_document, unless_refused, no_change, refused as refused_row}
 use Rattle.queue_core.specs.World.{World, cut, made_on}
 use Rattle.queue_types.specs.Settings.{SettingValues}
 use Rattle.ipp_reply.specs.declared.operation.Operation.{Operation}
@@ -139,6 +140,10 @@ own_quiet : (caller : List ℕ) (row : Job → Decision) → ((j : Job) → Quie
 own_quiet caller row q [] = not_found
 own_quiet caller row q (j ∷ js) = named_quiet (bytes_eq j.owner caller) (row j) (q j)
 
+seen_quiet : (operators : List (List ℕ)) (caller : List ℕ) (row : Job → Decision) → ((j : Job) → QuietDecision (row j)) → (js : List Job) → QuietDecision (of_seen operators caller row js)
+seen_quiet operators caller row q [] = not_found
+seen_quiet operators caller row q (j ∷ js) = named_quiet (bytes_eq j.owner caller || is_operator operators caller) (row j) (q j)
+
 machine_quiet : (s : Scene) (now : ℕ) (caller : List ℕ) (call : Call) → QuietDecision (call_row s now caller call)
 machine_quiet s now caller (print_job j format payload) = new_quiet (nat_le 100 s.live) (nat_lt 2147483647 s.next) (entered s (new_job s now caller false j payload) (new_document s.next format payload)) tt
 machine_quiet s now caller (create_job j) = new_quiet (nat_le 100 s.live) (nat_lt 2147483647 s.next) (entered s (new_job s now caller true j []) None) tt
@@ -147,10 +152,10 @@ machine_quiet s now caller (hold_job n) = own_quiet caller (λ j. hold_in j.phas
 machine_quiet s now caller (release_job n) = own_quiet caller (λ j. release_in j.phase s j) (λ j. release_quiet j.phase s j) s.jobs
 machine_quiet s now caller (cancel_my_jobs numbers) = cancel_my_quiet s now numbers
 machine_quiet s now caller (validate_job j) = new_quiet (nat_le 100 s.live) (nat_lt 2147483647 s.next) (answered Done) tt
-machine_quiet s now caller (get_jobs which limit) = tt
+machine_quiet s now caller (get_jobs which limit mine) = tt
 machine_quiet s now caller get_printer_attributes = tt
-machine_quiet s now caller (cancel_job n) = own_quiet caller (λ j. cancel_row s now j) (λ j. test_quiet _ (becomes s (canceled now j)) tt) s.jobs
-machine_quiet s now caller (get_job_attributes n) = own_quiet caller _ (λ j. tt) s.jobs
+machine_quiet s now caller (cancel_job n) = seen_quiet s.settings.operators caller (λ j. cancel_row s now (cause caller j) j) (λ j. test_quiet _ (becomes s (canceled_by (cause caller j) now j)) tt) s.jobs
+machine_quiet s now caller (get_job_attributes n) = seen_quiet s.settings.operators caller (λ j. answered (Jobs (j ∷ []))) (λ j. tt) s.jobs
 
 -- ---- the reply
 

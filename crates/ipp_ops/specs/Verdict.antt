@@ -6,7 +6,7 @@ use Rattle.queue_types.specs.Event.{Call, Event, ask, print_job, validate_job, c
 use Rattle.queue_core.specs.Limits.{IsEvent}
 use Rattle.ipp_reply.specs.declared.operation.Operation.{Operation}
 use Rattle.ipp_reply.specs.declared.operation.Operation.TheVariants.{PrintJob, ValidateJob, CreateJob, SendDocument, CancelJob, GetJobAttributes, GetJobs, GetPrinterAttributes, HoldJob, ReleaseJob, CancelMyJobs}
-use Rattle.ipp_request.specs.declared.attribute.OperationAttribute.TheVariants.{RequestedAttributes, WhichJobs, Limit, LastDocument, JobIds}
+use Rattle.ipp_request.specs.declared.attribute.OperationAttribute.TheVariants.{RequestedAttributes, WhichJobs, Limit, MyJobs, LastDocument, JobIds}
 use Rattle.ipp_ops.specs.declared.check.Check.{Check}
 use Rattle.ipp_reply.specs.Wanted.{Rows, of_job, of_printer, no_rows, rows_of, words_of}
 use Rattle.ipp_ops.specs.declared.verdict.Ask.{Ask}
@@ -57,7 +57,7 @@ call_by PrintJob r = print_job (new_job r) (format r) r.payload
 call_by ValidateJob r = validate_job (new_job r)
 call_by CreateJob r = create_job (new_job r)
 call_by SendDocument r = send_document (job r) (format r) r.payload (is_last r)
-call_by GetJobs r = get_jobs (which_jobs r) (limit r)
+call_by GetJobs r = get_jobs (which_jobs r) (limit r) (is_true r MyJobs)
 call_by GetPrinterAttributes r = get_printer_attributes
 call_by CancelJob r = cancel_job (job r)
 call_by GetJobAttributes r = get_job_attributes (job r)

@@ -98,6 +98,7 @@ fn call<'a>(alloc: Global, request: Request<'_, 'a>) -> Result<Call<'a>, AllocEr
         Operation::GetJobs => Call::GetJobs {
             which: which_jobs(request),
             limit: number(request.bytes_of(OperationAttribute::Limit)),
+            mine: request.is_true(OperationAttribute::MyJobs),
         },
         Operation::GetPrinterAttributes => Call::GetPrinterAttributes,
         Operation::CancelJob => Call::CancelJob { job: job(request) },

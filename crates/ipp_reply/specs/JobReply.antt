@@ -7,7 +7,7 @@ use Rattle.ipp_wire.specs.Message.{Value, Attribute, Group}
 use Rattle.queue_types.specs.declared.job.Job.{Job}
 use Rattle.queue_types.specs.declared.job.Reason.{Reason}
 use Rattle.queue_types.specs.declared.job.Reasons.{Reasons}
-use Rattle.queue_types.specs.declared.job.Reason.TheVariants.{NoReason, JobIncoming, JobHoldUntilSpecified, JobPrinting, PrinterStopped, ProcessingToStopPoint, JobCanceledByUser, JobCanceledAtDevice, AbortedBySystem, JobCompletedSuccessfully}
+use Rattle.queue_types.specs.declared.job.Reason.TheVariants.{NoReason, JobIncoming, JobHoldUntilSpecified, JobPrinting, PrinterStopped, ProcessingToStopPoint, JobCanceledByUser, JobCanceledAtDevice, JobCanceledByOperator, AbortedBySystem, JobCompletedSuccessfully}
 use Rattle.queue_types.specs.Job.{state, reasons}
 use Rattle.ipp_reply.specs.declared.job_reply.JobAttribute.{JobAttribute}
 use Rattle.ipp_reply.specs.declared.job_reply.JobAttribute.TheVariants.{JobUri, JobId, JobPrinterUri, JobName, JobOriginatingUserName, JobState, JobStateReasons, TimeAtCreation, TimeAtProcessing, TimeAtCompleted, JobPrinterUpTime, AttributesCharset, AttributesNaturalLanguage, JobKOctets, JobImpressions, JobImpressionsCompleted, NumberOfDocuments, Copies, JobHoldUntil}
@@ -42,6 +42,7 @@ reason_word PrinterStopped = codes "printer-stopped"
 reason_word ProcessingToStopPoint = codes "processing-to-stop-point"
 reason_word JobCanceledByUser = codes "job-canceled-by-user"
 reason_word JobCanceledAtDevice = codes "job-canceled-at-device"
+reason_word JobCanceledByOperator = codes "job-canceled-by-operator"
 reason_word AbortedBySystem = codes "aborted-by-system"
 reason_word JobCompletedSuccessfully = codes "job-completed-successfully"
 

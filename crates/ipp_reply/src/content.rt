@@ -56,6 +56,7 @@ fn reason_word(reason: Reason) -> &'static str
         Reason::ProcessingToStopPoint => "processing-to-stop-point",
         Reason::JobCanceledByUser => "job-canceled-by-user",
         Reason::JobCanceledAtDevice => "job-canceled-at-device",
+        Reason::JobCanceledByOperator => "job-canceled-by-operator",
         Reason::AbortedBySystem => "aborted-by-system",
         Reason::JobCompletedSuccessfully => "job-completed-successfully",
     }

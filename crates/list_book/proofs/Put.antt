@@ -135,13 +135,14 @@ made_is l m c tidy settings jobs documents free next grants reports =
     λ i. record { settings = settings i; jobs = p i; next = next i; grants = grants i; free = free i; reports = reports i }
 
 -- what is read of the lists is the scene
-pub scene_is : (l : Lists) (now : ℕ) (caller : List ℕ) (call : Call) (jobs : List Job) (free : List FreeRow) (live : ℕ) (counts : QueueCounts) (next : ℕ) → jobs ≡ jobs_for caller call l.jobs.items → free ≡ free_for caller call (get (free_map l.accounts.entries) caller) → live ≡ live_for caller call l.jobs.items → counts ≡ counts_for call l.jobs.items → next ≡ next_for call l.next → cut (world_of l) now (ask caller call) ≡ record { settings = l.settings; jobs = jobs; free = free; live = live; counts = counts; report = None; known = []; next = next }
+pub scene_is : (l : Lists) (now : ℕ) (caller : List ℕ) (call : Call) (jobs : List Job) (free : List FreeRow) (live : ℕ) (counts : QueueCounts) (next : ℕ) → jobs ≡ jobs_for l.settings.operators caller call l.jobs.items → free ≡ free_for caller call (jobs_for l.settings.operators caller call l.jobs.items) (free_map l.accounts.entries) → live ≡ live_for caller call l.jobs.items → counts ≡ counts_for call l.jobs.items → next ≡ next_for call l.next → cut (world_of l) now (ask caller call) ≡ record { settings = l.settings; jobs = jobs; free = free; live = live; counts = counts; report = None; known = []; next = next }
 scene_is l now caller call jobs free live counts next of_jobs of_free of_live of_counts of_next =
     let same : map (λ e. e.row) (entries_of l.documents.items l.jobs.items) ≡ l.jobs.items = rows_of l.documents.items l.jobs.items in
-    let p = ap (jobs_for caller call) same ∙ sym of_jobs in
+    let ops : List (List ℕ) = l.settings.operators in
+    let p = ap (jobs_for ops caller call) same ∙ sym of_jobs in
     let q = ap (counts_for call) same ∙ sym of_counts in
     let r = ap (live_for caller call) same ∙ sym of_live in
-    let f = sym of_free in
+    let f = ap (λ js. free_for caller call (jobs_for ops caller call js) (free_map l.accounts.entries)) same ∙ sym of_free in
     let n = sym of_next in
     λ i. record { settings = l.settings; jobs = p i; free = f i; live = r i; counts = q i; report = None; known = []; next = n i }
 

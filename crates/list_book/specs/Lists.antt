@@ -3,7 +3,7 @@ use Rattle.std.specs.Prelude.{ℕ, ℤ, ◌-◌, nat_lt, slice_get, fold, ◌≡
 use Rattle.std.specs.FinMap.{FinMap, from_entries}
 use Rattle.std.specs.HashMap.{spare}
 use Rattle.queue_types.specs.Event.{NewDocument}
-use denote.Ref.{Bor}
+pub use Rattle.queue_types.specs.Text.{texts}
 use Rattle.queue_core.specs.Shown.{charged_to}
 use Rattle.queue_core.specs.Sound.{IsSound, printed_for, reserved_for}
 use Rattle.queue_core.specs.World.{World, Entry, granted_in, report_cmp, job_at}
@@ -14,10 +14,6 @@ use Rattle.queue_types.specs.declared.event.KeptReport.{KeptReport}
 use Rattle.queue_types.specs.declared.sheet.AccountSheet.{AccountSheet}
 use Rattle.list_book.specs.declared.lists.Lists.{Lists}
 use Rattle.list_book.specs.Tables.{free_map, grants_map, total_of}
-
--- the borrowed texts
-abbrev pub texts : List (Bor (List ℕ)) → List (List ℕ)
-texts names = map (λ a. a.now) names
 
 -- x in the place of the first item that is the same, else at the end
 abbrev pub put_by : {X : Type 0} → (X → Bool) → X → List X → List X

@@ -1,5 +1,5 @@
 //! What an event needs of the book in lists.
-ghost use Rattle.std.specs.Prelude.{ℕ, ◌≡◌, ◌==◌, IfOk, count_by, filter, bytes_eq, ◌&&◌};
+ghost use Rattle.std.specs.Prelude.{ℕ, ◌≡◌, ◌==◌, IfOk, count_by, filter, bytes_eq, ◌&&◌, ◌||◌};
 ghost use Rattle.std.specs.BTreeSet.{contains};
 ghost use Rattle.std.specs.FinMap.{get};
 ghost use Rattle.std.specs.List.{list_any};
@@ -17,12 +17,15 @@ use crate::expiry::{accounts_of_owners, expired_in};
 use crate::grants::known_rows;
 use crate::lists::{Lists, Reports, place_of};
 use crate::shown::{cut_at, ordered};
-use queue_core::{call_scene, grants_scene, jobs_scene, no_counts, number_set, report_scene};
+use queue_core::{
+    call_scene, grants_scene, jobs_scene, no_counts, number_set, report_scene, sees_all,
+};
 use queue_types::event::{
     Call, Event, FreeRow, GrantRow, KeptReport, QueueCounts, Report, Scene, WhichJobs,
 };
 use queue_types::job::{Job, Phase};
 use queue_types::limits::FIRST_JOB_NUMBER;
+use queue_types::operators::OperatorNames;
 use std::alloc::{AllocError, Global};
 use std::collections::BTreeSet;
 
@@ -73,48 +76,58 @@ fn is_listed(which: WhichJobs, job: &Job) -> bool
     }
 }
 
-/// The caller's jobs of that kind.
-fn own_among(
+/// The job is of that kind, and the caller's own unless those of all callers are wanted.
+fn is_shown(job: &Job, all: bool, caller: &str, which: WhichJobs) -> bool
+    ensures { result ≡ ((all || bytes_eq job.now.owner caller.now) && is_among which job.now) }
+{
+    (all || job.owner.as_str() == caller) && is_listed(which, job)
+}
+
+/// The caller's jobs of that kind, or those of all callers.
+fn jobs_among(
     alloc: Global,
     jobs: &[Job],
+    all: bool,
     caller: &str,
     which: WhichJobs,
 ) -> Result<Vec<Job>, AllocError>
-    ensures { IfOk result (λ v. v.items ≡ filter (λ j. bytes_eq j.owner caller.now && is_among which j) jobs.now) }
+    ensures { IfOk result (λ v. v.items ≡ filter (λ j. (all || bytes_eq j.owner caller.now) && is_among which j) jobs.now) }
 {
-    let mut own = Vec::new(alloc);
+    let mut among = Vec::new(alloc);
     for job in jobs {
-        if job.owner.as_str() == caller && is_listed(which, job) {
-            own.push(job.try_clone()?)?;
+        if is_shown(job, all, caller, which) {
+            among.push(job.try_clone()?)?;
         }
     }
-    Ok(own)
+    Ok(among)
 }
 
 /// What Get-Jobs shows to the caller.
 fn shown_to(
     alloc: Global,
     jobs: &[Job],
+    all: bool,
     caller: &str,
     which: WhichJobs,
     limit: Option<u32>,
 ) -> Result<Vec<Job>, AllocError>
-    ensures { IfOk result (λ v. v.items ≡ visible caller.now which limit jobs.now) }
+    ensures { IfOk result (λ v. v.items ≡ visible all caller.now which limit jobs.now) }
 {
-    let own = own_among(alloc, jobs, caller, which)?;
-    let shown = ordered(alloc, which, own.as_slice())?;
+    let among = jobs_among(alloc, jobs, all, caller, which)?;
+    let shown = ordered(alloc, which, among.as_slice())?;
     Ok(cut_at(shown, limit))
 }
 
 /// The jobs that the caller's call speaks of.
 fn concerned(
     alloc: Global,
+    operators: &OperatorNames,
     jobs: &[Job],
     caller: &str,
     call: &Call<'_>,
 ) -> Result<Vec<Job>, AllocError>
     requires { AreRising jobs.now }
-    ensures { IfOk result (λ v. v.items ≡ jobs_for caller.now (call_of call.now) jobs.now) }
+    ensures { IfOk result (λ v. v.items ≡ jobs_for operators.now caller.now (call_of call.now) jobs.now) }
 {
     if let Some(job) = call.job() {
         return with_number(alloc, jobs, job);
@@ -123,13 +136,17 @@ fn concerned(
         Call::CancelMyJobs {
             jobs: Some(numbers),
         } => own_of_numbers(alloc, jobs, caller, numbers.as_slice()),
-        Call::CancelMyJobs { jobs: None } => own_among(
+        Call::CancelMyJobs { jobs: None } => jobs_among(
             alloc,
             jobs,
+            false,
             caller,
             WhichJobs::NotCompleted,
         ),
-        Call::GetJobs { which, limit } => shown_to(alloc, jobs, caller, *which, *limit),
+        Call::GetJobs { which, limit, mine } => {
+            let all = sees_all(operators, caller, *mine);
+            shown_to(alloc, jobs, all, caller, *which, *limit)
+        }
         _ => Ok(Vec::new(alloc)),
     }
 }
@@ -202,20 +219,32 @@ fn counts(jobs: &[Job], call: &Call<'_>) -> QueueCounts
     }
 }
 
-/// The caller's account, for a call by which pages may be set aside or come back.
+/// The account of the first job's owner, if there is a job.
+fn owner_rows(alloc: Global, accounts: &Accounts, jobs: &[Job]) -> Result<Vec<FreeRow>, AllocError>
+    ensures { IfOk result (λ v. v.items ≡ owner_row (free_map accounts.now.entries) jobs.now) }
+{
+    match jobs {
+        [] => Ok(Vec::new(alloc)),
+        [job, ..] => free_rows_of(alloc, accounts, job.owner.as_str()),
+    }
+}
+
+/// The account in which pages may be set aside or come back: for Cancel-Job that of the owner of the first of these jobs, which
+/// the call is about, else the caller's.
 fn free_for_call(
     alloc: Global,
     accounts: &Accounts,
     caller: &str,
     call: &Call<'_>,
+    jobs: &[Job],
 ) -> Result<Vec<FreeRow>, AllocError>
-    ensures { IfOk result (λ v. v.items ≡ free_for caller.now (call_of call.now) (get (free_map accounts.now.entries) caller.now)) }
+    ensures { IfOk result (λ v. v.items ≡ free_for caller.now (call_of call.now) jobs.now (free_map accounts.now.entries)) }
 {
     match call {
-        Call::CancelJob { .. }
-        | Call::CancelMyJobs { .. }
-        | Call::HoldJob { .. }
-        | Call::ReleaseJob { .. } => free_rows_of(alloc, accounts, caller),
+        Call::CancelJob { .. } => owner_rows(alloc, accounts, jobs),
+        Call::CancelMyJobs { .. } | Call::HoldJob { .. } | Call::ReleaseJob { .. } => {
+            free_rows_of(alloc, accounts, caller)
+        }
         _ => Ok(Vec::new(alloc)),
     }
 }
@@ -243,22 +272,18 @@ fn scene_of_call(
     requires { AreRising lists.now.jobs.items }
     ensures { IfOk result (λ s. (now : ℕ) → s ≡ cut (world_of lists.now) now (ask caller.now (call_of call.now))) }
 {
-    let jobs = concerned(alloc, lists.jobs.as_slice(), caller, call)?;
-    let free = free_for_call(alloc, &lists.accounts, caller, call)?;
+    let jobs = concerned(
+        alloc,
+        lists.settings.operators(),
+        lists.jobs.as_slice(),
+        caller,
+        call,
+    )?;
+    let free = free_for_call(alloc, &lists.accounts, caller, call, jobs.as_slice())?;
     let live = live_for_call(lists.jobs.as_slice(), caller, call);
     let counts = counts(lists.jobs.as_slice(), call);
     let next = next_for_call(lists.next, call);
     call_scene(alloc, &lists.settings, jobs, free, live, counts, next)
-}
-
-/// The account of the first job's owner.
-fn owner_rows(alloc: Global, accounts: &Accounts, jobs: &[Job]) -> Result<Vec<FreeRow>, AllocError>
-    ensures { IfOk result (λ v. v.items ≡ owner_row (free_map accounts.now.entries) jobs.now) }
-{
-    match jobs {
-        [] => Ok(Vec::new(alloc)),
-        [job, ..] => free_rows_of(alloc, accounts, job.owner.as_str()),
-    }
 }
 
 /// The report that is kept of the job under the sequence number.

@@ -12,6 +12,7 @@ mod expiry;
 mod faults;
 mod folder;
 mod listening;
+mod operators;
 mod patience;
 mod replays;
 mod server;

@@ -1,6 +1,6 @@
 -- The scene of each sound world is fair.
 use Rattle.std.proofs.Common.{◌≡◌, ℕ, suc, ℤ, pos, ◌+ℤ◌, ◌+◌, ◌-◌, ◌*◌, ◌^◌, ◌≤◌, ◌<◌, List, [], ◌∷◌, ◌++◌, length, map, arith, subst, Bool, true, false, cond}
-use Rattle.std.specs.Prelude.{Option, Some, None, All, IfSome, bytes_eq, filter, sum_by, ◌==◌, ◌&&◌}
+use Rattle.std.specs.Prelude.{Option, Some, None, All, IfSome, bytes_eq, filter, sum_by, ◌==◌, ◌&&◌, ◌||◌}
 use Rattle.std.specs.List.{AllByRecursion as Each}
 use Rattle.std.specs.FinMap.{get}
 use Rattle.std.proofs.lemmas.Int.{ints}
@@ -8,7 +8,7 @@ use Rattle.std.proofs.lemmas.List.Sums.{sum_by-cons}
 use Rattle.std.proofs.lemmas.Nat.{mul-le}
 use Rattle.queue_types.specs.Job.{owed, is_live}
 use Rattle.queue_types.specs.Event.{Event, Call, ask, tell, grant, expire, print_job, validate_job, create_job, send_document, cancel_job, cancel_my_jobs, hold_job, release_job, get_job_attributes, get_jobs, get_printer_attributes}
-use Rattle.queue_core.specs.World.{World, Entry, rows, cut, found_row, owner_row, known_grant, numbered, jobs_for, has_expired, owners, rows_of_accounts, free_for, next_for, counts_for, granted}
+use Rattle.queue_core.specs.World.{World, Entry, rows, cut, found_row, owner_row, known_grant, numbered, jobs_for, has_expired, owners, rows_of_accounts, free_for, next_for, shows_all, counts_for, granted}
 use Rattle.queue_core.specs.Limits.{IsFair, IsKnown, IsSoundJob, IsAmount}
 use Rattle.queue_core.specs.Sound.{IsSound, IsSoundEntry, IsKept, Rise, reserved, printed}
 use Rattle.queue_types.specs.declared.event.FreeRow.{FreeRow}
@@ -102,7 +102,7 @@ each_numbered n w sound = each_named (λ j. j.number == n) w.jobs sound.entries
 few_numbered : (n : ℕ) (w : World) → length (numbered n (rows w)) ≤ length w.jobs
 few_numbered n w = named_few (λ j. j.number == n) w.jobs
 
-jobs_sound : (w : World) (caller : List ℕ) (call : Call) → IsSound w → Each IsSoundJob (jobs_for caller call (rows w))
+jobs_sound : (w : World) (caller : List ℕ) (call : Call) → IsSound w → Each IsSoundJob (jobs_for w.settings.operators caller call (rows w))
 jobs_sound w caller (send_document n format payload last) sound = each_numbered n w sound
 jobs_sound w caller (cancel_my_jobs None) sound = each_named _ w.jobs sound.entries
 jobs_sound w caller (cancel_my_jobs (Some numbers)) sound = each_named _ w.jobs sound.entries
@@ -110,10 +110,10 @@ jobs_sound w caller (hold_job n) sound = each_numbered n w sound
 jobs_sound w caller (release_job n) sound = each_numbered n w sound
 jobs_sound w caller (cancel_job n) sound = each_numbered n w sound
 jobs_sound w caller (get_job_attributes n) sound = each_numbered n w sound
-jobs_sound w caller (get_jobs which limit) sound = each-visible IsSoundJob limit which _ (each_named _ w.jobs sound.entries)
+jobs_sound w caller (get_jobs which limit mine) sound = each-visible IsSoundJob limit which _ (each_named _ w.jobs sound.entries)
 jobs_sound w caller _ sound = tt
 
-jobs_few : (w : World) (caller : List ℕ) (call : Call) → length (jobs_for caller call (rows w)) ≤ length w.jobs
+jobs_few : (w : World) (caller : List ℕ) (call : Call) → length (jobs_for w.settings.operators caller call (rows w)) ≤ length w.jobs
 jobs_few w caller (send_document n format payload last) = few_numbered n w
 jobs_few w caller (cancel_my_jobs None) = named_few _ w.jobs
 jobs_few w caller (cancel_my_jobs (Some numbers)) = named_few _ w.jobs
@@ -121,15 +121,19 @@ jobs_few w caller (hold_job n) = few_numbered n w
 jobs_few w caller (release_job n) = few_numbered n w
 jobs_few w caller (cancel_job n) = few_numbered n w
 jobs_few w caller (get_job_attributes n) = few_numbered n w
-jobs_few w caller (get_jobs which limit) =
-    let p : Job → Bool = λ j. bytes_eq j.owner caller && is_among which j in
+jobs_few w caller (get_jobs which limit mine) =
+    let p : Job → Bool = λ j. (shows_all w.settings.operators caller mine || bytes_eq j.owner caller) && is_among which j in
     let shown = few_visible limit which (filter p (rows w)) in
     let own = named_few p w.jobs in
     omega arith
 jobs_few w caller _ = omega arith
 
-call_amounts : (w : World) → IsSound w → (caller : List ℕ) (call : Call) → Each (λ (r : FreeRow). IsAmount r.free) (free_for caller call (get w.free caller))
-call_amounts w sound caller (cancel_job n) = found caller (get w.free caller) (amounts_of w sound caller)
+owner_amounts : (w : World) → IsSound w → (js : List Job) → Each (λ (r : FreeRow). IsAmount r.free) (owner_row w.free js)
+owner_amounts w sound [] = tt
+owner_amounts w sound (j ∷ js) = found j.owner (get w.free j.owner) (amounts_of w sound j.owner)
+
+call_amounts : (w : World) → IsSound w → (caller : List ℕ) (call : Call) → Each (λ (r : FreeRow). IsAmount r.free) (free_for caller call (jobs_for w.settings.operators caller call (rows w)) w.free)
+call_amounts w sound caller (cancel_job n) = owner_amounts w sound (numbered n (rows w))
 call_amounts w sound caller (cancel_my_jobs numbers) = found caller (get w.free caller) (amounts_of w sound caller)
 call_amounts w sound caller (hold_job n) = found caller (get w.free caller) (amounts_of w sound caller)
 call_amounts w sound caller (release_job n) = found caller (get w.free caller) (amounts_of w sound caller)
@@ -141,10 +145,6 @@ next_least (validate_job new) next least = least
 next_least (create_job new) next least = least
 next_least get_printer_attributes next least = least
 next_least _ next least = omega arith
-
-owner_amounts : (w : World) → IsSound w → (js : List Job) → Each (λ (r : FreeRow). IsAmount r.free) (owner_row w.free js)
-owner_amounts w sound [] = tt
-owner_amounts w sound (j ∷ js) = found j.owner (get w.free j.owner) (amounts_of w sound j.owner)
 
 kept_within : (w : World) (n s : ℕ) (o : Option KeptReport) → IfSome o (IsKept w n s) → IfSome o (λ k. k.total ≤ 100000000)
 kept_within w n s None kept = tt

@@ -1,5 +1,5 @@
 -- Several jobs of the caller's own are canceled at once: the world stays sound, and its jobs move along the allowed pairs.
-use Rattle.std.proofs.Common.{◌≡◌, ℕ, ℤ, pos, ◌+ℤ◌, ◌-ℤ◌, ◌+◌, ◌<◌, List, [], ◌∷◌, map, refl, ap, sym, ◌∙◌, arith, subst, inl, inr, Bool, true, false, cond}
+use Rattle.std.proofs.Common.{◌≡◌, ◌≢◌, ℕ, ℤ, pos, ◌+ℤ◌, ◌-ℤ◌, ◌+◌, ◌<◌, List, [], ◌∷◌, map, refl, ap, sym, ◌∙◌, arith, subst, inl, inr, Bool, true, false, cond}
 use Rattle.std.specs.Prelude.{Option, Some, None, IsTrue, ◌&&◌, nat_eq, bytes_eq, option_map, filter, fold}
 use Rattle.std.specs.List.{list_all, AllByRecursion as Each}
 use Rattle.std.specs.Option.{option_map_or}
@@ -20,6 +20,8 @@ use Rattle.queue_core.specs.Sound.{IsSound, IsIdle, Rise}
 use Rattle.queue_types.specs.declared.job.Job.{Job}
 use Rattle.queue_types.specs.declared.job.Phase.{Phase}
 use Rattle.queue_types.specs.declared.job.Phase.TheVariants.{Waiting, Running, Stopped}
+use Rattle.queue_types.specs.declared.job.Why.{Why}
+use Rattle.queue_types.specs.declared.job.Why.TheVariants.{ByUser, AtDevice}
 use Rattle.queue_types.specs.declared.event.Scene.{Scene}
 use Rattle.queue_core.proofs.Keep.{at, each-map, ne_from_lt}
 use Rattle.queue_core.proofs.Moves.{stays, at-with_row}
@@ -31,44 +33,51 @@ use Rattle.queue_core.proofs.Rows.{Replaces, KeepsDocuments, same_job, still_sou
 
 -- ---- a job once it is canceled
 
-pub replaced : (now : ℕ) (j : Job) (p : Phase) → j.phase ≡ p → is_cancelable_in p j ≡ true → Replaces (canceled_in p now j) j
-replaced now j Waiting is can = record { number = refl; owner = refl; count = refl; live = omega arith }
-replaced now j Running is can = record { number = refl; owner = refl; count = refl; live = omega arith }
-replaced now j Stopped is can = record { number = refl; owner = refl; count = refl; live = omega arith }
-replaced now j _ is can = absurd (cc)
+pub replaced : (why : Why) (now : ℕ) (j : Job) (p : Phase) → j.phase ≡ p → is_cancelable_in p j ≡ true → Replaces (canceled_in why p now j) j
+replaced why now j Waiting is can = record { number = refl; owner = refl; count = refl; live = omega arith }
+replaced why now j Running is can = record { number = refl; owner = refl; count = refl; live = omega arith }
+replaced why now j Stopped is can = record { number = refl; owner = refl; count = refl; live = omega arith }
+replaced why now j _ is can = absurd (cc)
 
 -- marked as stopping
-stopping : (now : ℕ) (j : Job) (p : Phase) → j.phase ≡ p → (FitsPhase p j → FitsPhase p (record j { stopping = true })) → KeepsDocuments (record j { stopping = true }) j
-stopping now j p is fits = record {
+stopping : (why : Why) (j : Job) (p : Phase) → j.phase ≡ p → (FitsPhase p j → FitsPhase p (record j { stopping = Some why })) → KeepsDocuments (record j { stopping = Some why }) j
+stopping why j p is fits = record {
   documents = refl;
   octets = refl;
-  sound = λ s. still_sound (record j { stopping = true }) j (same_job j) s s.count s.begun s.ended s.documents s.octets (subst (λ q. FitsPhase q (record j { stopping = true })) (sym is) (fits (subst (λ q. FitsPhase q j) is s.phase)));
+  sound = λ s. still_sound (record j { stopping = Some why }) j (same_job j) s s.count s.begun s.ended s.documents s.octets (subst (λ q. FitsPhase q (record j { stopping = Some why })) (sym is) (fits (subst (λ q. FitsPhase q j) is s.phase)));
 }
 
-pub keeps_documents : (now : ℕ) (j : Job) (p : Phase) → IsMoment now → j.phase ≡ p → is_cancelable_in p j ≡ true → KeepsDocuments (canceled_in p now j) j
-keeps_documents now j Waiting moment is can = record {
+not_the_device : (why : Why) → why ≢ AtDevice → Some why ≢ Some AtDevice
+not_the_device why asks same = asks (cc)
+
+pub keeps_documents : (why : Why) (now : ℕ) (j : Job) (p : Phase) → why ≢ AtDevice → IsMoment now → j.phase ≡ p → is_cancelable_in p j ≡ true → KeepsDocuments (canceled_in why p now j) j
+keeps_documents why now j Waiting asks moment is can = record {
   documents = refl;
   octets = refl;
-  sound = λ s. still_sound (canceled_in Waiting now j) j (same_job j) s s.count s.begun moment s.documents s.octets (refl, refl, refl, (subst (λ p. FitsPhase p j) is s.phase).3);
+  sound = λ s. still_sound (canceled_in why Waiting now j) j (same_job j) s s.count s.begun moment s.documents s.octets (refl, refl, refl, (subst (λ p. FitsPhase p j) is s.phase).3);
 }
-keeps_documents now j Running moment is can = stopping now j Running is (λ f. f)
-keeps_documents now j Stopped moment is can = stopping now j Stopped is (λ f. f)
-keeps_documents now j _ moment is can = absurd (cc)
+keeps_documents why now j Running asks moment is can = stopping why j Running is (λ f. (f.0, f.1, f.2, f.3, not_the_device why asks))
+keeps_documents why now j Stopped asks moment is can = stopping why j Stopped is (λ f. (f.0, f.1, f.2, f.3, not_the_device why asks))
+keeps_documents why now j _ asks moment is can = absurd (cc)
 
-pub stays_idle : (now : ℕ) (j : Job) (p : Phase) → is_cancelable_in p j ≡ true → IsIdle j → IsIdle (canceled_in p now j)
-stays_idle now j Waiting can h = (h.0, h.1, refl)
-stays_idle now j _ can h = h
+-- its user asks
+pub by_user : ByUser ≢ AtDevice
+by_user e = absurd (cc)
+
+pub stays_idle : (why : Why) (now : ℕ) (j : Job) (p : Phase) → is_cancelable_in p j ≡ true → IsIdle j → IsIdle (canceled_in why p now j)
+stays_idle why now j Waiting can h = (h.0, h.1, refl)
+stays_idle why now j _ can h = h
 
 waiting_ends : (hold incoming : Bool) → IsTrue (is_pair (state_in Waiting hold incoming) 7)
 waiting_ends true incoming = refl
 waiting_ends false true = refl
 waiting_ends false false = refl
 
-pub follows : (now : ℕ) (j : Job) (p : Phase) → j.phase ≡ p → is_cancelable_in p j ≡ true → Follows (Some j) (Some (canceled_in p now j))
-follows now j Waiting is can = inr (subst (λ p. IsTrue (is_pair (state_in p j.hold j.incoming) 7)) (sym is) (waiting_ends j.hold j.incoming))
-follows now j Running is can = inl refl
-follows now j Stopped is can = inl refl
-follows now j _ is can = absurd (cc)
+pub follows : (why : Why) (now : ℕ) (j : Job) (p : Phase) → j.phase ≡ p → is_cancelable_in p j ≡ true → Follows (Some j) (Some (canceled_in why p now j))
+follows why now j Waiting is can = inr (subst (λ p. IsTrue (is_pair (state_in p j.hold j.incoming) 7)) (sym is) (waiting_ends j.hold j.incoming))
+follows why now j Running is can = inl refl
+follows why now j Stopped is can = inl refl
+follows why now j _ is can = absurd (cc)
 
 -- ---- the jobs of a rising list
 
@@ -147,13 +156,13 @@ many_sound now before moment [] w m sound rising each free =
 many_sound now before moment (j ∷ js) w m sound rising each free =
     let x = canceled now j in
     let can = each.0.2 in
-    let fits = replaced now j j.phase refl can in
+    let fits = replaced ByUser now j j.phase refl can in
     let there : at x.number w.jobs ≡ Some j = ap (λ n. at n w.jobs) fits.number ∙ each.0.0 in
     let known : job_at x.number before ≡ Some j = ap (λ n. job_at n before) fits.number ∙ each.0.1 in
     let back_now = moved w.free x.owner (j ∷ []) (x ∷ []) in
     let got : (q : List ℕ) → get back_now q ≡ option_map (λ f. f +ℤ back x j q) (get w.free q) = moved_get w.free j x [] fits.number in
     let next : IsSound (with_jobs w back_now (with_row w.jobs x)) =
-    row_keeps w back_now (with_row w.jobs x) x j sound there fits refl (row_entries w.jobs x j there (keeps_documents now j j.phase moment refl can) sound.entries) (λ none h. stays_idle now j j.phase can h) got in
+    row_keeps w back_now (with_row w.jobs x) x j sound there fits refl (row_entries w.jobs x j there (keeps_documents ByUser now j j.phase by_user moment refl can) sound.entries) (λ none h. stays_idle ByUser now j j.phase can h) got in
     many_sound now before moment js (with_jobs w back_now (with_row w.jobs x)) m next rising.1 (still_ready w back_now before x j js fits.number rising.0 each.1)
     (λ q.
     free q
@@ -176,12 +185,12 @@ many_move old es (x ∷ xs) before each n =
 each_follows : (now : ℕ) (w : World) (before js : List Job) → Each (IsReady w before) js → Each (λ x. Follows (at x.number w.jobs) (Some x)) (map (canceled now) js)
 each_follows now w before [] each = tt
 each_follows now w before (j ∷ js) each =
-    let there : at (canceled now j).number w.jobs ≡ Some j = ap (λ n. at n w.jobs) (replaced now j j.phase refl each.0.2).number ∙ each.0.0 in
-    (subst (λ o. Follows o (Some (canceled now j))) (sym there) (follows now j j.phase refl each.0.2), each_follows now w before js each.1)
+    let there : at (canceled now j).number w.jobs ≡ Some j = ap (λ n. at n w.jobs) (replaced ByUser now j j.phase refl each.0.2).number ∙ each.0.0 in
+    (subst (λ o. Follows o (Some (canceled now j))) (sym there) (follows ByUser now j j.phase refl each.0.2), each_follows now w before js each.1)
 
 each_owned : (now : ℕ) (caller : List ℕ) (js : List Job) → Each (λ j. (j.owner ≡ caller) × (is_cancelable j ≡ true)) js → Each (λ x. x.owner ≡ caller) (map (canceled now) js)
 each_owned now caller [] each = tt
-each_owned now caller (j ∷ js) each = ((replaced now j j.phase refl each.0.1).owner ∙ each.0.0, each_owned now caller js each.1)
+each_owned now caller (j ∷ js) each = ((replaced ByUser now j j.phase refl each.0.1).owner ∙ each.0.0, each_owned now caller js each.1)
 
 -- ---- the event
 

@@ -11,6 +11,8 @@ use Rattle.queue_core.specs.Balance.{AreAmounts}
 use Rattle.queue_core.specs.Machine.{canceled, canceled_in, is_cancelable}
 use Rattle.queue_types.specs.declared.job.Job.{Job}
 use Rattle.queue_types.specs.declared.job.Phase.{Phase}
+use Rattle.queue_types.specs.declared.job.Why.{Why}
+use Rattle.queue_types.specs.declared.job.Why.TheVariants.{ByUser}
 use Rattle.queue_types.specs.declared.job.Phase.TheVariants.{Waiting, Running, Stopped}
 use Rattle.queue_core.proofs.Ordered.{all_of, each_of, each-filter}
 
@@ -43,15 +45,15 @@ canceled_more now js i d below =
     ∙ ap (map (canceled now)) (filter-append is_cancelable (take i js) (get_or js i d ∷ []))
     ∙ map-append (canceled now) (filter is_cancelable (take i js)) (filter is_cancelable (get_or js i d ∷ []))
 
-amounts_in : (now : ℕ) (j : Job) (p : Phase) → AreAmounts j → AreAmounts (canceled_in p now j)
-amounts_in now j Waiting a = record { impressions = a.impressions; copies = a.copies; count = a.count }
-amounts_in now j Running a = record { impressions = a.impressions; copies = a.copies; count = a.count }
-amounts_in now j Stopped a = record { impressions = a.impressions; copies = a.copies; count = a.count }
-amounts_in now j _ a = a
+pub amounts_in : (why : Why) (now : ℕ) (j : Job) (p : Phase) → AreAmounts j → AreAmounts (canceled_in why p now j)
+amounts_in why now j Waiting a = record { impressions = a.impressions; copies = a.copies; count = a.count }
+amounts_in why now j Running a = record { impressions = a.impressions; copies = a.copies; count = a.count }
+amounts_in why now j Stopped a = record { impressions = a.impressions; copies = a.copies; count = a.count }
+amounts_in why now j _ a = a
 
 each_canceled : (now : ℕ) (js : List Job) → Each AreAmounts js → Each AreAmounts (map (canceled now) js)
 each_canceled now [] each = tt
-each_canceled now (j ∷ js) each = (amounts_in now j j.phase each.0, each_canceled now js each.1)
+each_canceled now (j ∷ js) each = (amounts_in ByUser now j j.phase each.0, each_canceled now js each.1)
 
 pub amounts_kept : (now : ℕ) (js : List Job) → All AreAmounts js → All AreAmounts (map (canceled now) (filter is_cancelable js))
 amounts_kept now js all = all_of AreAmounts _ (each_canceled now (filter is_cancelable js) (each-filter AreAmounts is_cancelable js (each_of AreAmounts js all)))

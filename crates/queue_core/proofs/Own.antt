@@ -1,7 +1,7 @@
 -- A job of the caller's own changes, and the free pages of its account where that is looked up: the world stays sound, and its jobs move along
 -- the allowed pairs.
-use Rattle.std.proofs.Common.{◌≡◌, ℕ, ℤ, pos, ◌+ℤ◌, ◌-ℤ◌, List, [], ◌∷◌, map, refl, ap, sym, ◌∙◌, arith, eq-eqb, true, false, cond}
-use Rattle.std.specs.Prelude.{Option, Some, None, nat_eq, bytes_eq, option_map, filter, fold}
+use Rattle.std.proofs.Common.{◌≡◌, ℕ, ℤ, pos, ◌+ℤ◌, ◌-ℤ◌, List, [], ◌∷◌, map, refl, ap, sym, ◌∙◌, arith, eq-eqb, Bool, true, false, cond}
+use Rattle.std.specs.Prelude.{Option, Some, None, ◌||◌, nat_eq, bytes_eq, option_map, filter, fold}
 use Rattle.std.specs.List.{AllByRecursion as Each}
 use Rattle.std.specs.Option.{option_map_or}
 use Rattle.std.specs.FinMap.{FinMap, get, get-insert}
@@ -12,7 +12,8 @@ use Rattle.std.proofs.lemmas.Int.{ints}
 use Rattle.std.proofs.lemmas.Map.Text.{is_eq-slice_cmp}
 use Rattle.queue_core.specs.World.{World, rows, cut, made_on, text_cmp, put_free, found_row, job_at, with_row, with_document}
 use Rattle.queue_types.specs.Event.{Call, Decision, NewDocument, ask}
-use Rattle.queue_core.specs.Machine.{taken, credited, returned, changed, becomes, refused, of_own}
+use Rattle.queue_types.specs.Operators.{is_operator}
+use Rattle.queue_core.specs.Machine.{taken, credited, returned, changed, becomes, refused, of_own, of_seen}
 use Rattle.queue_core.specs.Runs.{Follows, MovesAlong}
 use Rattle.queue_core.specs.Sound.{IsSound, IsSoundEntry, IsIdle}
 use Rattle.queue_types.specs.declared.job.Job.{Job}
@@ -104,18 +105,18 @@ module _ (w : World) (now : ℕ) (caller : List ℕ) (call : Call) (n : ℕ) (so
         moves = row_moves w (free_after x) es x j same there follows;
       }
 
-  -- where the caller's account is looked up, it moves by the balance
-  free_moves : (j x : Job) (rest : List Job) → scene.jobs ≡ j ∷ rest → scene.free ≡ found_row caller (get w.free caller) → j.owner ≡ caller → Replaces x j → (q : List ℕ) → get (free_after x) q ≡ option_map (λ f. f +ℤ back x j q) (get w.free q)
-  free_moves j x rest e looked_up own fits q =
+  -- where the account of the job's owner is looked up, it moves by the balance
+  free_moves : (j x : Job) (rest : List Job) (account : List ℕ) → scene.jobs ≡ j ∷ rest → scene.free ≡ found_row account (get w.free account) → j.owner ≡ account → Replaces x j → (q : List ℕ) → get (free_after x) q ≡ option_map (λ f. f +ℤ back x j q) (get w.free q)
+  free_moves j x rest account e looked_up own fits q =
       ap (λ js. get (fold put_free w.free (map (credited js (x ∷ [])) scene.free)) q) e
       ∙ ap (λ rows. get (fold put_free w.free (map (credited (j ∷ rest) (x ∷ [])) rows)) q) looked_up
       ∙ ap (λ a. get (moved w.free a (j ∷ rest) (x ∷ [])) q) (sym (fits.owner ∙ own))
       ∙ moved_get w.free j x rest fits.number q
 
   -- the job becomes x, and keeps its documents
-  pub becomes_keeps : (j x : Job) (rest : List Job) → scene.jobs ≡ j ∷ rest → scene.free ≡ found_row caller (get w.free caller) → j.owner ≡ caller → Replaces x j → KeepsDocuments x j → (get w.free x.owner ≡ None → IsIdle j → IsIdle x) → Follows (Some j) (Some x) → Keeps w (made_on (becomes scene x).change w)
-  becomes_keeps j x rest e looked_up own fits keeps idle follows =
-      changed_keeps j x rest None e fits (free_moves j x rest e looked_up own fits) refl (row_entries w.jobs x j (found_at j x rest e fits) keeps sound.entries) idle follows
+  pub becomes_keeps : (j x : Job) (rest : List Job) (account : List ℕ) → scene.jobs ≡ j ∷ rest → scene.free ≡ found_row account (get w.free account) → j.owner ≡ account → Replaces x j → KeepsDocuments x j → (get w.free x.owner ≡ None → IsIdle j → IsIdle x) → Follows (Some j) (Some x) → Keeps w (made_on (becomes scene x).change w)
+  becomes_keeps j x rest account e looked_up own fits keeps idle follows =
+      changed_keeps j x rest None e fits (free_moves j x rest account e looked_up own fits) refl (row_entries w.jobs x j (found_at j x rest e fits) keeps sound.entries) idle follows
 
   rows_keep : (row : Job → Decision) → ((j : Job) (rest : List Job) → scene.jobs ≡ j ∷ rest → j.owner ≡ caller → Keeps w (made_on (row j).change w)) → (js : List Job) → scene.jobs ≡ js → Keeps w (made_on (of_own caller row js).change w)
   rows_keep row each [] e = unchanged w sound
@@ -128,3 +129,15 @@ module _ (w : World) (now : ℕ) (caller : List ℕ) (call : Call) (n : ℕ) (so
   -- what each job of the caller's own keeps, the call keeps
   pub own_keeps : (row : Job → Decision) → ((j : Job) (rest : List Job) → scene.jobs ≡ j ∷ rest → j.owner ≡ caller → Keeps w (made_on (row j).change w)) → Keeps w (made_on (of_own caller row scene.jobs).change w)
   own_keeps row each = rows_keep row each scene.jobs refl
+
+  rows_seen : (row : Job → Decision) → ((j : Job) (rest : List Job) → scene.jobs ≡ j ∷ rest → Keeps w (made_on (row j).change w)) → (js : List Job) → scene.jobs ≡ js → Keeps w (made_on (of_seen w.settings.operators caller row js).change w)
+  rows_seen row each [] e = unchanged w sound
+  rows_seen row each (j ∷ rest) e =
+      elim (bytes_eq j.owner caller || is_operator w.settings.operators caller) as (λ (b : Bool). Keeps w (made_on (cond b (row j) (refused 0x0406)).change w)) [
+        | true ↦ each j rest e
+        | false ↦ unchanged w sound
+      ]
+
+  -- what each job keeps that the caller may see, the call keeps
+  pub seen_keeps : (row : Job → Decision) → ((j : Job) (rest : List Job) → scene.jobs ≡ j ∷ rest → Keeps w (made_on (row j).change w)) → Keeps w (made_on (of_seen w.settings.operators caller row scene.jobs).change w)
+  seen_keeps row each = rows_seen row each scene.jobs refl

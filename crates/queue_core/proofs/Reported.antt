@@ -1,5 +1,5 @@
 -- A report keeps a world sound: one job changes, its count is the greatest, and the report is kept.
-use Rattle.std.proofs.Common.{◌≡◌, ℕ, ℤ, ◌+◌, ◌≤◌, ◌<◌, List, [], ◌∷◌, map, refl, ap, sym, ◌∙◌, arith, subst, inl, inr, Bool, true, false, cond}
+use Rattle.std.proofs.Common.{◌≡◌, ◌≢◌, ℕ, ℤ, ◌+◌, ◌≤◌, ◌<◌, List, [], ◌∷◌, map, refl, ap, sym, ◌∙◌, arith, subst, inl, inr, Bool, true, false, cond}
 use Rattle.std.specs.Prelude.{Option, Some, None, IfSome, IsSome, IsSomeAnd, IsTrue, is_some, nat_eq, nat_le, fold, max, ◌⊎◌, ◌||◌}
 use Rattle.std.specs.List.{AllByRecursion as Each}
 use Rattle.std.specs.FinMap.{FinMap, get, insert, get-insert}
@@ -23,6 +23,8 @@ use Rattle.queue_types.specs.declared.event.Reply.TheVariants.{Told, NotTold}
 use Rattle.queue_types.specs.declared.event.Scene.{Scene}
 use Rattle.queue_types.specs.declared.job.Job.{Job}
 use Rattle.queue_types.specs.declared.job.Phase.{Phase}
+use Rattle.queue_types.specs.declared.job.Why.{Why}
+use Rattle.queue_types.specs.declared.job.Why.TheVariants.{AtDevice}
 use Rattle.queue_types.specs.declared.job.Phase.TheVariants.{Waiting, Running, Stopped, Canceled, Aborted, Completed}
 use Rattle.queue_core.proofs.Keep.{at, each-with_row, ne_from_gt, some-with_row}
 use Rattle.queue_core.proofs.Fair.{first_sound}
@@ -57,6 +59,9 @@ held_or_ended : (hold incoming : Bool) (ended : Option ℕ) → (hold || incomin
 held_or_ended true incoming ended free none idle = absurd (cc)
 held_or_ended false incoming ended free none idle = let no : is_some ended ≡ false = ap is_some none in absurd (cc)
 
+no_device : (o : Option Why) → o ≡ None → o ≢ Some AtDevice
+no_device o none device = absurd (cc)
+
 pending : (hold incoming : Bool) → (hold || incoming) ≡ false → IsTrue (is_pair (state_in Waiting hold incoming) 5)
 pending true incoming e = absurd (cc)
 pending false true e = absurd (cc)
@@ -79,7 +84,7 @@ module _ (c now : ℕ) (j : Job) (s : IsSoundJob j) (moment : IsMoment now) (fit
         octets = refl;
         count = refl;
         live = subst (λ p. 1 ≤ cond (is_live_in p) 1 0) (sym is) (omega arith);
-        sound = within (record (counted c j) { phase = Running; begun = Some now }) (same_job j) refl moment s.ended refl refl (un.0, un.1, refl, waits.2);
+        sound = within (record (counted c j) { phase = Running; begun = Some now }) (same_job j) refl moment s.ended refl refl (un.0, un.1, refl, waits.2, no_device j.stopping waits.3);
         follows = inr (subst (λ p. IsTrue (is_pair (state_in p j.hold j.incoming) 5)) (sym is) (pending j.hold j.incoming free));
         busy = λ idle. held_or_ended j.hold j.incoming j.ended free waits.2 idle.2;
       })
@@ -122,15 +127,15 @@ module _ (c now : ℕ) (j : Job) (s : IsSoundJob j) (moment : IsMoment now) (fit
 
   moved_is : (k : Kind) (p : Phase) → j.phase ≡ p → (x : Job) → moved_by k p now (counted c j) ≡ Some x → IsReported c x j
   moved_is Start Waiting is x e = starts (j.hold || j.incoming) refl is x e
-  moved_is Stop Running is x e = let has = subst (λ p. FitsPhase p j) is s.phase in goes Running Stopped (record (counted c j) { phase = Stopped }) is (λ f. f) (same_job j) refl refl s.ended refl refl has (omega arith) (inr refl) x e
-  moved_is Resume Stopped is x e = let has = subst (λ p. FitsPhase p j) is s.phase in goes Stopped Running (record (counted c j) { phase = Running }) is (λ f. f) (same_job j) refl refl s.ended refl refl has (omega arith) (inr refl) x e
+  moved_is Stop Running is x e = let has = subst (λ p. FitsPhase p j) is s.phase in goes Running Stopped (record (counted c j) { phase = Stopped }) is (λ f. (f.0, f.1, f.2, f.3)) (same_job j) refl refl s.ended refl refl has (omega arith) (inr refl) x e
+  moved_is Resume Stopped is x e = let has = subst (λ p. FitsPhase p j) is s.phase in goes Stopped Running (record (counted c j) { phase = Running }) is (λ f. (f.0, f.1, f.2, f.3)) (same_job j) refl refl s.ended refl refl has (omega arith) (inr refl) x e
   moved_is Count Waiting is x e = counts_in Waiting is waits_uncounted (is_some j.begun) refl x e
   moved_is Count p is x e = counts_in p is (λ some f. f) (is_some j.begun) refl x e
-  moved_is Done Running is x e = let has = subst (λ p. FitsPhase p j) is s.phase in goes Running Completed (ended_as Completed now (counted c j)) is (λ f. f) (same_job j) refl refl moment refl refl (has.0, has.1, refl, refl) (omega arith) (inr refl) x e
-  moved_is Fail Running is x e = let has = subst (λ p. FitsPhase p j) is s.phase in goes Running Aborted (ended_as Aborted now (counted c j)) is (λ f. f) (same_job j) refl refl moment refl refl (has.0, has.1, refl, refl) (omega arith) (inr refl) x e
-  moved_is Fail Stopped is x e = let has = subst (λ p. FitsPhase p j) is s.phase in goes Stopped Aborted (ended_as Aborted now (counted c j)) is (λ f. f) (same_job j) refl refl moment refl refl (has.0, has.1, refl, refl) (omega arith) (inr refl) x e
-  moved_is Halt Running is x e = let has = subst (λ p. FitsPhase p j) is s.phase in goes Running Completed (ended_as (Canceled (why_halted j.stopping)) now (counted c j)) is (λ f. f) (same_job j) refl refl moment refl refl (has.0, has.1, refl, refl) (omega arith) (inr refl) x e
-  moved_is Halt Stopped is x e = let has = subst (λ p. FitsPhase p j) is s.phase in goes Stopped Completed (ended_as (Canceled (why_halted j.stopping)) now (counted c j)) is (λ f. f) (same_job j) refl refl moment refl refl (has.0, has.1, refl, refl) (omega arith) (inr refl) x e
+  moved_is Done Running is x e = let has = subst (λ p. FitsPhase p j) is s.phase in goes Running Completed (ended_as Completed now (counted c j)) is (λ f. (f.0, f.1, f.2, f.3)) (same_job j) refl refl moment refl refl (has.0, has.1, refl, refl) (omega arith) (inr refl) x e
+  moved_is Fail Running is x e = let has = subst (λ p. FitsPhase p j) is s.phase in goes Running Aborted (ended_as Aborted now (counted c j)) is (λ f. (f.0, f.1, f.2, f.3)) (same_job j) refl refl moment refl refl (has.0, has.1, refl, refl) (omega arith) (inr refl) x e
+  moved_is Fail Stopped is x e = let has = subst (λ p. FitsPhase p j) is s.phase in goes Stopped Aborted (ended_as Aborted now (counted c j)) is (λ f. (f.0, f.1, f.2, f.3)) (same_job j) refl refl moment refl refl (has.0, has.1, refl, refl) (omega arith) (inr refl) x e
+  moved_is Halt Running is x e = let has = subst (λ p. FitsPhase p j) is s.phase in goes Running Completed (ended_as (Canceled (why_halted j.stopping)) now (counted c j)) is (λ f. (f.0, f.1, f.2, f.3)) (same_job j) refl refl moment refl refl (has.0, has.1, refl, refl) (omega arith) (inr refl) x e
+  moved_is Halt Stopped is x e = let has = subst (λ p. FitsPhase p j) is s.phase in goes Stopped Completed (ended_as (Canceled (why_halted j.stopping)) now (counted c j)) is (λ f. (f.0, f.1, f.2, f.3)) (same_job j) refl refl moment refl refl (has.0, has.1, refl, refl) (omega arith) (inr refl) x e
   moved_is _ _ is x e = absurd (cc)
 
 pub reported_is : (r : Report) (now : ℕ) (j x : Job) → IsSoundJob j → IsMoment now → IsReport r → reported r now j ≡ Some x → IsReported r.count x j

@@ -6,10 +6,11 @@ use Rattle.queue_types.specs.Event.{Event, Call, NewJob, NewDocument, Decision, 
 use Rattle.queue_core.specs.World.{job_at}
 use Rattle.queue_core.specs.Reports.{reported, is_same_report}
 use Rattle.queue_core.specs.Grants.{repeated, refused_row, new_row, row_of, Taken, all_taken, none_taken, free_after, add_row, take_rows}
-use Rattle.queue_core.specs.Machine.{decision, call_row, refused, becomes, answered, canceled, is_cancelable, all_canceled, entered, new_job, new_document, new_refusal, sent, accepted, accepted_where, report_row, grant_row, expired, expire_row}
+use Rattle.queue_core.specs.Machine.{decision, call_row, refused, becomes, answered, canceled, canceled_by, cause, is_cancelable, all_canceled, entered, new_job, new_document, new_refusal, sent, accepted, accepted_where, report_row, grant_row, expired, expire_row}
 use Rattle.queue_core.specs.Limits.{IsMoment, IsEvent, IsCall, IsOwner, IsNewJob, IsSoundJob, IsFair, IsReport, IsReplyTo, IsSoundReply, IsSoundChange}
 use Rattle.queue_types.specs.declared.document.Format.{Format}
 use Rattle.queue_types.specs.declared.job.Job.{Job}
+use Rattle.queue_types.specs.declared.job.Why.TheVariants.{ByUser}
 use Rattle.queue_types.specs.declared.event.FreeRow.{FreeRow}
 use Rattle.queue_types.specs.declared.event.GrantRow.{GrantRow}
 use Rattle.queue_types.specs.declared.event.KeptReport.{KeptReport}
@@ -19,8 +20,8 @@ use Rattle.queue_types.specs.declared.event.Reply.TheVariants.{Refused, Jobs, Do
 use Rattle.queue_types.specs.declared.event.Report.{Report}
 use Rattle.queue_types.specs.declared.event.ReportRefusal.TheVariants.{NoJob, State, Conflict}
 use Rattle.queue_types.specs.declared.event.Scene.{Scene}
-use Rattle.queue_core.proofs.Cancel.{held, held_documents}
-use Rattle.queue_core.proofs.Many.{keeps_documents, passed, each_both}
+use Rattle.queue_core.proofs.Cancel.{asks_to_stop, held, held_documents}
+use Rattle.queue_core.proofs.Many.{keeps_documents, by_user, passed, each_both}
 use Rattle.queue_core.proofs.Forms.{IsOwn, HasForm, not_possible, not_found, out_of_numbers, done, lists, shows, shows_printer, prints, creates, sends, cancels, cancels_all, holds, releases, call_form}
 use Rattle.queue_core.proofs.Ordered.{all_of, each_of, each-filter}
 use Rattle.queue_core.proofs.Print.{new_job_sound, not_refused}
@@ -58,7 +59,7 @@ of_its_job x format (b ∷ bytes) = ap (λ t. is_some (cond t (Some x) None)) (e
 
 each_canceled : (now : ℕ) (js : List Job) → IsMoment now → Each (λ j. IsSoundJob j × (is_cancelable j ≡ true)) js → Each IsSoundJob (map (canceled now) js)
 each_canceled now [] moment each = tt
-each_canceled now (j ∷ js) moment each = ((keeps_documents now j j.phase moment refl each.0.1).sound each.0.0, each_canceled now js moment each.1)
+each_canceled now (j ∷ js) moment each = ((keeps_documents ByUser now j j.phase by_user moment refl each.0.1).sound each.0.0, each_canceled now js moment each.1)
 
 -- those that can be
 canceling_able : (s : Scene) (now : ℕ) → IsFair s → IsMoment now → IsAskDecision (all_canceled s now (filter is_cancelable s.jobs))
@@ -79,23 +80,27 @@ module _ (s : Scene) (now : ℕ) (caller : List ℕ) (fair : IsFair s) (moment :
       let job = new_job_sound s now caller incoming new payload fair.settings fair.next (not_refused s room).1 moment owner limits fits in
       record { reply = one x job; change = record { jobs = one x job; document = its }; grants = refl }
 
+  first_sound : (j : Job) (rest : List Job) → s.jobs ≡ j ∷ rest → IsSoundJob j
+  first_sound j rest first = subst (All IsSoundJob) first fair.jobs 0 j (omega arith)
+
   own_sound : (j : Job) → IsOwn s caller j → IsSoundJob j
-  own_sound j own = subst (All IsSoundJob) own.first fair.jobs 0 j (omega arith)
+  own_sound j own = first_sound j own.rest own.first
 
   form_within : (call : Call) (d : Decision) → HasForm s now caller call d → IsCall call → IsAskDecision d
   form_within _ _ (not_possible call) limits = refusing 0x0404
   form_within _ _ (not_found call) limits = refusing 0x0406
   form_within _ _ (out_of_numbers call) limits = refusing 0x0506
   form_within _ _ (done call) limits = answering Done tt
-  form_within _ _ (lists which limit) limits = answering (Jobs s.jobs) fair.jobs
-  form_within _ _ (shows n j own) limits = answering (Jobs (j ∷ [])) (one j (own_sound j own))
+  form_within _ _ (lists which limit mine) limits = answering (Jobs s.jobs) fair.jobs
+  form_within _ _ (shows n j seen) limits = answering (Jobs (j ∷ [])) (one j (first_sound j seen.rest seen.first))
   form_within _ _ shows_printer limits = answering _ fair.queued
   form_within _ _ (prints new format payload room) limits = entering false new payload (new_document s.next format payload) room limits.0 limits.1 (of_its_job (new_job s now caller false new payload) format payload)
   form_within _ _ (creates new room) limits = entering true new [] None room limits (omega arith) tt
   form_within _ _ (sends n format payload last j own can) limits =
       let job = sent_sound j payload last (own_sound j own) can limits in
       record { reply = one (sent j payload last) job; change = record { jobs = one (sent j payload last) job; document = of_its_job (sent j payload last) format payload }; grants = refl }
-  form_within _ _ (cancels n j own can) limits = becoming s (canceled now j) ((keeps_documents now j j.phase moment refl can).sound (own_sound j own))
+  form_within _ _ (cancels n j seen can) limits =
+      becoming s (canceled_by (cause caller j) now j) ((keeps_documents (cause caller j) now j j.phase (asks_to_stop caller j) moment refl can).sound (first_sound j seen.rest seen.first))
   form_within _ _ (cancels_all numbers) limits = canceling_able s now fair moment
   form_within _ _ (holds n j own is) limits = becoming s (held true j) ((held_documents true j is).sound (own_sound j own))
   form_within _ _ (releases n j own is has) limits = becoming s (held false j) ((held_documents false j is).sound (own_sound j own))

@@ -1,7 +1,8 @@
 -- The limits of rows, events and replies.
-use Rattle.std.specs.Prelude.{◌≡◌, ℕ, ℤ, ◌^◌, ◌*◌, ◌+◌, ◌≤◌, ◌<◌, List, None, All, ⊤, IsSome, IfSome, length, ◌==◌, ◌&&◌, ◌||◌, Bool, false, IsTrue, not, nat_le}
+use Rattle.std.specs.Prelude.{◌≡◌, ℕ, ℤ, ◌^◌, ◌*◌, ◌+◌, ◌≤◌, ◌<◌, ◌≢◌, List, Some, None, All, ⊤, IsSome, IfSome, length, ◌==◌, ◌&&◌, ◌||◌, Bool, false, IsTrue, nat_le}
 use Rattle.std.specs.List.{list_all}
 use Rattle.std.specs.Str.{IsUtf8}
+pub use Rattle.queue_types.specs.Names.{IsOwner, is_no_control}
 use Rattle.queue_types.specs.Settings.{AreSettings}
 use Rattle.queue_types.specs.Event.{Event, Call, NewJob, Change, ask, tell, grant, expire, print_job, validate_job, create_job, send_document, cancel_job, cancel_my_jobs, hold_job, release_job, get_job_attributes, get_jobs, get_printer_attributes}
 use Rattle.queue_core.specs.Balance.{IsWithin}
@@ -9,6 +10,7 @@ use Rattle.queue_core.specs.World.{job_at}
 use Rattle.queue_types.specs.declared.job.Job.{Job}
 use Rattle.queue_types.specs.declared.job.Phase.{Phase}
 use Rattle.queue_types.specs.declared.job.Phase.TheVariants.{Waiting, Running, Stopped, Canceled, Aborted, Completed}
+use Rattle.queue_types.specs.declared.job.Why.TheVariants.{AtDevice}
 use Rattle.queue_types.specs.declared.event.GrantRow.{GrantRow}
 use Rattle.queue_types.specs.declared.event.KnownGrant.{KnownGrant}
 use Rattle.queue_types.specs.declared.event.Report.{Report}
@@ -23,16 +25,6 @@ IsPositive n = (1 ≤ n) × (n < 2 ^ 31)
 -- seconds of printer up time
 abbrev pub IsMoment : ℕ → Type 0
 IsMoment = IsPositive
-
-abbrev pub is_no_control : ℕ → Bool
-is_no_control b = nat_le 32 b && not (b == 127)
-
--- an owner's or account's name: 1 to 255 octets of UTF-8 without control bytes
-pub record IsOwner (t : List ℕ) : Type 0 where
-  pub some : 1 ≤ length t
-  pub fits : length t ≤ 255
-  pub utf8 : IsUtf8 t
-  pub printable : IsTrue (list_all is_no_control t)
 
 -- a job's name: 1 to 255 octets of UTF-8 without a zero byte
 pub record IsJobName (t : List ℕ) : Type 0 where
@@ -55,14 +47,14 @@ pub record IsBatch (t : List ℕ) : Type 0 where
 abbrev pub IsGrant : List ℕ → List ℕ → ℕ → Type 0
 IsGrant batch account pages = IsBatch batch × IsOwner account × (1 ≤ pages) × (pages ≤ 1000000)
 
--- what a phase asks of the other fields
+-- what a phase asks of the other fields; the device itself asks nobody to stop a job
 abbrev pub FitsPhase : Phase → Job → Type 0
-FitsPhase Waiting j = (j.count ≡ 0) × (j.begun ≡ None) × (j.ended ≡ None) × (j.stopping ≡ false)
-FitsPhase Running j = (j.hold ≡ false) × (j.incoming ≡ false) × IsSome j.begun × (j.ended ≡ None)
-FitsPhase Stopped j = (j.hold ≡ false) × (j.incoming ≡ false) × IsSome j.begun × (j.ended ≡ None)
-FitsPhase (Canceled why) j = (j.hold ≡ false) × (j.incoming ≡ false) × IsSome j.ended × (j.stopping ≡ false)
-FitsPhase Aborted j = (j.hold ≡ false) × (j.incoming ≡ false) × IsSome j.ended × (j.stopping ≡ false)
-FitsPhase Completed j = (j.hold ≡ false) × (j.incoming ≡ false) × IsSome j.ended × (j.stopping ≡ false)
+FitsPhase Waiting j = (j.count ≡ 0) × (j.begun ≡ None) × (j.ended ≡ None) × (j.stopping ≡ None)
+FitsPhase Running j = (j.hold ≡ false) × (j.incoming ≡ false) × IsSome j.begun × (j.ended ≡ None) × (j.stopping ≢ Some AtDevice)
+FitsPhase Stopped j = (j.hold ≡ false) × (j.incoming ≡ false) × IsSome j.begun × (j.ended ≡ None) × (j.stopping ≢ Some AtDevice)
+FitsPhase (Canceled why) j = (j.hold ≡ false) × (j.incoming ≡ false) × IsSome j.ended × (j.stopping ≡ None)
+FitsPhase Aborted j = (j.hold ≡ false) × (j.incoming ≡ false) × IsSome j.ended × (j.stopping ≡ None)
+FitsPhase Completed j = (j.hold ≡ false) × (j.incoming ≡ false) × IsSome j.ended × (j.stopping ≡ None)
 
 -- a job's own limits
 pub record IsSoundJob (j : Job) : Type 0 where
@@ -93,7 +85,7 @@ IsCall (send_document n format payload last) = length payload ≤ 16777216
 IsCall (cancel_my_jobs numbers) = ⊤
 IsCall (hold_job n) = ⊤
 IsCall (release_job n) = ⊤
-IsCall (get_jobs which limit) = ⊤
+IsCall (get_jobs which limit mine) = ⊤
 IsCall get_printer_attributes = ⊤
 IsCall (cancel_job n) = ⊤
 IsCall (get_job_attributes n) = ⊤

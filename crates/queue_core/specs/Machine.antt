@@ -1,8 +1,9 @@
 -- The machine: what each event is answered, and what becomes of the rows. One definition for each row of its table.
-use Rattle.std.specs.Prelude.{ℕ, ℤ, pos, ◌+ℤ◌, ◌-ℤ◌, ◌+◌, fold, List, [], ◌∷◌, Option, Some, None, map, filter, ◌==◌, ◌&&◌, not, bytes_eq, Bool, true, false, if◌then◌else◌, nat_le, nat_lt, int_le, unwrap_or, length}
+use Rattle.std.specs.Prelude.{ℕ, ℤ, pos, ◌+ℤ◌, ◌-ℤ◌, ◌+◌, fold, List, [], ◌∷◌, Option, Some, None, map, filter, ◌==◌, ◌&&◌, ◌||◌, not, bytes_eq, Bool, true, false, if◌then◌else◌, nat_le, nat_lt, int_le, unwrap_or, is_none, length}
 use Rattle.std.specs.List.{list_all, list_any}
 use Rattle.std.specs.Option.{option_map_or}
 use Rattle.queue_types.specs.Job.{estimate, owed, job_state}
+use Rattle.queue_types.specs.Operators.{is_operator}
 use Rattle.queue_types.specs.Event.{NewJob, NewDocument, Change, Decision, Event, Call, ask, tell, grant, expire, print_job, validate_job, create_job, send_document, cancel_job, cancel_my_jobs, hold_job, release_job, get_job_attributes, get_jobs, get_printer_attributes}
 use Rattle.queue_core.specs.World.{World, cut, made_on, job_at}
 use Rattle.queue_core.specs.Reports.{reported, is_same_report, ended_as}
@@ -10,7 +11,8 @@ use Rattle.queue_core.specs.Grants.{Taken, all_taken, none_taken, take_rows}
 use Rattle.queue_core.specs.Sound.{reserved_for}
 use Rattle.queue_types.specs.declared.job.Job.{Job}
 use Rattle.queue_types.specs.declared.document.Format.{Format}
-use Rattle.queue_types.specs.declared.job.Why.TheVariants.{ByUser}
+use Rattle.queue_types.specs.declared.job.Why.{Why}
+use Rattle.queue_types.specs.declared.job.Why.TheVariants.{ByUser, ByOperator}
 use Rattle.queue_types.specs.declared.job.Phase.{Phase}
 use Rattle.queue_types.specs.declared.job.Phase.TheVariants.{Waiting, Running, Stopped, Canceled, Aborted, Completed}
 use Rattle.queue_types.specs.declared.event.FreeRow.{FreeRow}
@@ -74,7 +76,7 @@ new_job s now caller incoming j payload = record {
   hold = true;
   incoming = incoming;
   phase = Waiting;
-  stopping = false;
+  stopping = None;
   count = 0;
   created = now;
   begun = None;
@@ -130,8 +132,8 @@ printer_row s = answered (Printer (printer_state s.counts) s.counts.queued (nat_
 -- a job that waits, or that the device has and was not asked to stop
 abbrev pub is_cancelable_in : Phase → Job → Bool
 is_cancelable_in Waiting j = true
-is_cancelable_in Running j = not j.stopping
-is_cancelable_in Stopped j = not j.stopping
+is_cancelable_in Running j = is_none j.stopping
+is_cancelable_in Stopped j = is_none j.stopping
 is_cancelable_in (Canceled why) j = false
 is_cancelable_in Aborted j = false
 is_cancelable_in Completed j = false
@@ -140,19 +142,27 @@ abbrev pub is_cancelable : Job → Bool
 is_cancelable j = is_cancelable_in j.phase j
 
 -- a waiting job ends; while the device has it, it is asked to stop
-abbrev pub canceled_in : Phase → ℕ → Job → Job
-canceled_in Waiting now j = record j { phase = Canceled ByUser; hold = false; incoming = false; ended = Some now }
-canceled_in Running now j = record j { stopping = true }
-canceled_in Stopped now j = record j { stopping = true }
-canceled_in (Canceled why) now j = j
-canceled_in Aborted now j = j
-canceled_in Completed now j = j
+abbrev pub canceled_in : Why → Phase → ℕ → Job → Job
+canceled_in why Waiting now j = record j { phase = Canceled why; hold = false; incoming = false; ended = Some now }
+canceled_in why Running now j = record j { stopping = Some why }
+canceled_in why Stopped now j = record j { stopping = Some why }
+canceled_in why (Canceled before) now j = j
+canceled_in why Aborted now j = j
+canceled_in why Completed now j = j
 
+abbrev pub canceled_by : Why → ℕ → Job → Job
+canceled_by why now j = canceled_in why j.phase now j
+
+-- by its owner
 abbrev pub canceled : ℕ → Job → Job
-canceled now j = canceled_in j.phase now j
+canceled now j = canceled_by ByUser now j
 
-abbrev pub cancel_row : Scene → ℕ → Job → Decision
-cancel_row s now j = if is_cancelable j then becomes s (canceled now j) else refused 0x0404
+-- the owner cancels its own job, and an operator another's
+abbrev pub cause : List ℕ → Job → Why
+cause caller j = if bytes_eq j.owner caller then ByUser else ByOperator
+
+abbrev pub cancel_row : Scene → ℕ → Why → Job → Decision
+cancel_row s now why j = if is_cancelable j then becomes s (canceled_by why now j) else refused 0x0404
 
 -- ---- Cancel-My-Jobs (PWG 5100.11)
 
@@ -264,18 +274,30 @@ abbrev pub of_own : List ℕ → (Job → Decision) → List Job → Decision
 of_own caller row [] = refused 0x0406
 of_own caller row (j ∷ js) = if bytes_eq j.owner caller then row j else refused 0x0406
 
+-- the caller's own job, and for an operator any; another's and none are one answer
+abbrev pub of_seen : List (List ℕ) → List ℕ → (Job → Decision) → List Job → Decision
+of_seen operators caller row [] = refused 0x0406
+of_seen operators caller row (j ∷ js) = if bytes_eq j.owner caller || is_operator operators caller then row j else refused 0x0406
+
+-- an operation on a job of the caller's own
+abbrev pub is_on_own : Call → Bool
+is_on_own (send_document n format payload last) = true
+is_on_own (hold_job n) = true
+is_on_own (release_job n) = true
+is_on_own _ = false
+
 abbrev pub call_row : Scene → ℕ → List ℕ → Call → Decision
 call_row s now caller (print_job j format payload) = print_job_row s now caller j format payload
 call_row s now caller (validate_job j) = validate_job_row s
 call_row s now caller (create_job j) = create_job_row s now caller j
 call_row s now caller (send_document n format payload last) = of_own caller (λ j. send_in s j format payload last) s.jobs
-call_row s now caller (get_jobs which limit) = answered (Jobs s.jobs)
+call_row s now caller (get_jobs which limit mine) = answered (Jobs s.jobs)
 call_row s now caller get_printer_attributes = printer_row s
-call_row s now caller (cancel_job n) = of_own caller (λ j. cancel_row s now j) s.jobs
+call_row s now caller (cancel_job n) = of_seen s.settings.operators caller (λ j. cancel_row s now (cause caller j) j) s.jobs
 call_row s now caller (cancel_my_jobs numbers) = cancel_my_jobs_row s now numbers
 call_row s now caller (hold_job n) = of_own caller (λ j. hold_in j.phase s j) s.jobs
 call_row s now caller (release_job n) = of_own caller (λ j. release_in j.phase s j) s.jobs
-call_row s now caller (get_job_attributes n) = of_own caller (λ j. answered (Jobs (j ∷ []))) s.jobs
+call_row s now caller (get_job_attributes n) = of_seen s.settings.operators caller (λ j. answered (Jobs (j ∷ []))) s.jobs
 
 abbrev pub decision : Scene → ℕ → Event → Decision
 decision s now (ask caller call) = call_row s now caller call

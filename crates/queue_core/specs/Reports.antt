@@ -1,5 +1,5 @@
 -- What a device's reports make of a job.
-use Rattle.std.specs.Prelude.{ℕ, ◌==◌, ◌&&◌, ◌||◌, Option, Some, None, is_some, max, Bool, false, if◌then◌else◌}
+use Rattle.std.specs.Prelude.{ℕ, ◌==◌, ◌&&◌, ◌||◌, Option, Some, None, is_some, max, unwrap_or, Bool, if◌then◌else◌}
 use Rattle.queue_types.specs.Event.{kind_number}
 use Rattle.queue_types.specs.declared.event.Kind.{Kind}
 use Rattle.queue_types.specs.declared.event.Kind.TheVariants.{Start, Stop, Resume, Count, Done, Fail, Halt}
@@ -8,7 +8,7 @@ use Rattle.queue_types.specs.declared.job.Job.{Job}
 use Rattle.queue_types.specs.declared.job.Phase.{Phase}
 use Rattle.queue_types.specs.declared.job.Phase.TheVariants.{Waiting, Running, Stopped, Canceled, Aborted, Completed}
 use Rattle.queue_types.specs.declared.job.Why.{Why}
-use Rattle.queue_types.specs.declared.job.Why.TheVariants.{ByUser, AtDevice}
+use Rattle.queue_types.specs.declared.job.Why.TheVariants.{AtDevice}
 
 -- of one job and sequence number, the same report
 abbrev pub is_same_report : Report → Report → Bool
@@ -19,11 +19,11 @@ abbrev pub counted : ℕ → Job → Job
 counted count j = record j { count = max j.count count }
 
 abbrev pub ended_as : Phase → ℕ → Job → Job
-ended_as phase now j = record j { phase = phase; stopping = false; ended = Some now }
+ended_as phase now j = record j { phase = phase; stopping = None; ended = Some now }
 
--- its user ended it where a cancel was asked, and else the device
-abbrev pub why_halted : Bool → Why
-why_halted stopping = if stopping then ByUser else AtDevice
+-- whoever asked to cancel it ended it, and if nobody did, the device
+abbrev pub why_halted : Option Why → Why
+why_halted stopping = unwrap_or stopping AtDevice
 
 -- what becomes of a job in that phase, where a report of that kind is taken of it
 abbrev pub moved_by : Kind → Phase → ℕ → Job → Option Job

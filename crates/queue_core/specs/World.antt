@@ -1,5 +1,5 @@
 -- A queue as a whole: its jobs with their documents, accounts, grants and reports; and what a change makes of it.
-use Rattle.std.specs.Prelude.{◌≡◌, ⊤, ℕ, ℤ, sum_by, List, [], ◌∷◌, ◌++◌, Option, Some, None, map, filter, find, fold, count_by, ◌==◌, ◌&&◌, ◌+◌, bytes_eq, nat_le, nat_lt, Bool, if◌then◌else◌, unwrap_or}
+use Rattle.std.specs.Prelude.{◌≡◌, ⊤, ℕ, ℤ, sum_by, List, [], ◌∷◌, ◌++◌, Option, Some, None, map, filter, find, fold, count_by, ◌==◌, ◌&&◌, ◌+◌, bytes_eq, nat_le, nat_lt, not, Bool, if◌then◌else◌, unwrap_or}
 use Rattle.std.specs.List.{list_any}
 use Rattle.std.specs.declared.cmp.Ordering.{Ordering}
 use Rattle.std.specs.Ordering.{nat_cmp, ordering_then}
@@ -7,6 +7,7 @@ use Rattle.std.specs.Cmp.{IsTotalOrder, nat_cmp_total, on_total, then_total}
 use Rattle.std.specs.Cmp.Lexicographic.{nat_list_cmp_total, slice_cmp}
 use Rattle.std.specs.Coded.{Coded, coded×, coded_list, coded_ℕ, coded_ℤ}
 use Rattle.std.specs.FinMap.{code, FinMap, empty, entries, insert, get}
+use Rattle.queue_types.specs.Operators.{is_operator}
 use Rattle.queue_types.specs.Settings.{SettingValues}
 use Rattle.queue_types.specs.Job.{is_live, is_running, is_stopped, state}
 use Rattle.queue_core.specs.Visible.{visible}
@@ -122,20 +123,24 @@ numbered n js = filter (λ j. j.number == n) js
 unfoldable pub is_one_of : List ℕ → Job → Bool
 is_one_of numbers j = list_any (λ n. n == j.number) numbers
 
--- of all jobs those that a caller's call speaks of
-abbrev pub jobs_for : List ℕ → Call → List Job → List Job
-jobs_for caller (print_job new format payload) js = []
-jobs_for caller (validate_job new) js = []
-jobs_for caller (create_job new) js = []
-jobs_for caller (send_document n format payload last) js = numbered n js
-jobs_for caller (cancel_job n) js = numbered n js
-jobs_for caller (cancel_my_jobs (Some numbers)) js = filter (λ j. bytes_eq j.owner caller && is_one_of numbers j) js
-jobs_for caller (cancel_my_jobs None) js = filter (λ j. bytes_eq j.owner caller && is_live j) js
-jobs_for caller (hold_job n) js = numbered n js
-jobs_for caller (release_job n) js = numbered n js
-jobs_for caller (get_job_attributes n) js = numbered n js
-jobs_for caller (get_jobs which limit) js = visible caller which limit js
-jobs_for caller get_printer_attributes js = []
+-- an operator is shown the jobs of all owners unless it asks for its own alone
+abbrev pub shows_all : List (List ℕ) → List ℕ → Bool → Bool
+shows_all operators caller mine = is_operator operators caller && not mine
+
+-- of all jobs those that a caller's call speaks of, for these operators
+abbrev pub jobs_for : List (List ℕ) → List ℕ → Call → List Job → List Job
+jobs_for operators caller (print_job new format payload) js = []
+jobs_for operators caller (validate_job new) js = []
+jobs_for operators caller (create_job new) js = []
+jobs_for operators caller (send_document n format payload last) js = numbered n js
+jobs_for operators caller (cancel_job n) js = numbered n js
+jobs_for operators caller (cancel_my_jobs (Some numbers)) js = filter (λ j. bytes_eq j.owner caller && is_one_of numbers j) js
+jobs_for operators caller (cancel_my_jobs None) js = filter (λ j. bytes_eq j.owner caller && is_live j) js
+jobs_for operators caller (hold_job n) js = numbered n js
+jobs_for operators caller (release_job n) js = numbered n js
+jobs_for operators caller (get_job_attributes n) js = numbered n js
+jobs_for operators caller (get_jobs which limit mine) js = visible (shows_all operators caller mine) caller which limit js
+jobs_for operators caller get_printer_attributes js = []
 
 -- how many jobs of the caller are in states 3 to 6
 abbrev pub live_jobs : List ℕ → List Job → ℕ
@@ -147,7 +152,7 @@ has_expired keep now j = nat_lt 0 keep && (nat_le (j.created + keep) now && stat
 
 -- the jobs that the event is about at that moment
 abbrev pub jobs_of : ℕ → Event → World → List Job
-jobs_of now (ask caller call) w = jobs_for caller call (rows w)
+jobs_of now (ask caller call) w = jobs_for w.settings.operators caller call (rows w)
 jobs_of now (tell r) w = numbered r.job (rows w)
 jobs_of now (grant new) w = []
 jobs_of now expire w = filter (has_expired w.settings.keep now) (rows w)
@@ -163,7 +168,7 @@ live_for caller (cancel_my_jobs numbers) js = 0
 live_for caller (hold_job n) js = 0
 live_for caller (release_job n) js = 0
 live_for caller (get_job_attributes n) js = 0
-live_for caller (get_jobs which limit) js = 0
+live_for caller (get_jobs which limit mine) js = 0
 live_for caller get_printer_attributes js = 0
 
 abbrev pub live_of : Event → World → ℕ
@@ -187,7 +192,7 @@ counts_for (cancel_my_jobs numbers) js = queue_counts []
 counts_for (hold_job n) js = queue_counts []
 counts_for (release_job n) js = queue_counts []
 counts_for (get_job_attributes n) js = queue_counts []
-counts_for (get_jobs which limit) js = queue_counts []
+counts_for (get_jobs which limit mine) js = queue_counts []
 
 abbrev pub counts_of : Event → World → QueueCounts
 counts_of (ask caller call) w = counts_for call (rows w)
@@ -219,23 +224,24 @@ abbrev pub rows_of_accounts : FinMap text_cmp ℤ → List (List ℕ) → List F
 rows_of_accounts free [] = []
 rows_of_accounts free (a ∷ names) = found_row a (get free a) ++ rows_of_accounts free names
 
--- a caller's account is looked up where pages may be set aside or come back, and else not
-abbrev pub free_for : List ℕ → Call → Option ℤ → List FreeRow
-free_for caller (print_job new format payload) free = []
-free_for caller (validate_job new) free = []
-free_for caller (create_job new) free = []
-free_for caller (send_document n format payload last) free = []
-free_for caller (cancel_job n) free = found_row caller free
-free_for caller (cancel_my_jobs numbers) free = found_row caller free
-free_for caller (hold_job n) free = found_row caller free
-free_for caller (release_job n) free = found_row caller free
-free_for caller (get_job_attributes n) free = []
-free_for caller (get_jobs which limit) free = []
-free_for caller get_printer_attributes free = []
+-- an account is looked up where pages may be set aside or come back, and else not: for Cancel-Job that of the owner of the job that
+-- it is about, and else the caller's
+abbrev pub free_for : List ℕ → Call → List Job → FinMap text_cmp ℤ → List FreeRow
+free_for caller (print_job new format payload) js free = []
+free_for caller (validate_job new) js free = []
+free_for caller (create_job new) js free = []
+free_for caller (send_document n format payload last) js free = []
+free_for caller (cancel_job n) js free = owner_row free js
+free_for caller (cancel_my_jobs numbers) js free = found_row caller (get free caller)
+free_for caller (hold_job n) js free = found_row caller (get free caller)
+free_for caller (release_job n) js free = found_row caller (get free caller)
+free_for caller (get_job_attributes n) js free = []
+free_for caller (get_jobs which limit mine) js free = []
+free_for caller get_printer_attributes js free = []
 
--- the account of the caller, where it is looked up, or of the job's owner, or of all owners of the jobs that end
+-- the account of the caller or of the job's owner, where it is looked up, or the accounts of all owners of the jobs that end
 abbrev pub free_of : ℕ → Event → World → List FreeRow
-free_of now (ask caller call) w = free_for caller call (get w.free caller)
+free_of now (ask caller call) w = free_for caller call (jobs_of now (ask caller call) w) w.free
 free_of now (tell r) w = owner_row w.free (numbered r.job (rows w))
 free_of now (grant new) w = []
 free_of now expire w = rows_of_accounts w.free (owners (jobs_of now expire w))
@@ -251,7 +257,7 @@ next_for (cancel_my_jobs numbers) next = 1
 next_for (hold_job n) next = 1
 next_for (release_job n) next = 1
 next_for (get_job_attributes n) next = 1
-next_for (get_jobs which limit) next = 1
+next_for (get_jobs which limit mine) next = 1
 next_for get_printer_attributes next = next
 
 -- An account file is decided without it. It is looked up all the same, so that a book in tables reads them for every event, also for a file without

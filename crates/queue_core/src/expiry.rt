@@ -22,7 +22,7 @@ fn expired_job(now: u32, job: &Job) -> Result<Job, AllocError>
     job.phase = Phase::Aborted;
     job.hold = false;
     job.incoming = false;
-    job.stopping = false;
+    job.stopping = None;
     job.ended = Some(now);
     Ok(job)
 }

@@ -26,7 +26,8 @@ pub use laws::{
 };
 pub use machine::decide;
 pub use my_jobs::number_set;
-pub use names::{are_batch_bytes, has_no_control, has_no_zero, is_batch, is_job_name, is_owner};
-pub use scenes::{call_scene, grants_scene, jobs_scene, no_counts, report_scene};
+pub use names::{are_batch_bytes, has_no_zero, is_batch, is_job_name};
+pub use queue_types::names::{has_no_control, is_owner};
+pub use scenes::{call_scene, grants_scene, jobs_scene, no_counts, report_scene, sees_all};
 pub use sweeping::sweep;
 pub use writing::{Unwritten, put_whole};

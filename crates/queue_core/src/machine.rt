@@ -1,9 +1,9 @@
 //! What the machine decides on the rows that an event needs.
-ghost use Rattle.std.specs.Prelude.{◌≡◌, [], ◌<◌, ◌^◌, IfOk, IsNone, IsSome, None, false, option_map};
+ghost use Rattle.std.specs.Prelude.{◌≡◌, [], ◌<◌, ◌^◌, IfOk, IsNone, IsTrue, None, false, option_map};
 ghost use Rattle.queue_core.specs.Balance.{AreAmounts};
-ghost use Rattle.queue_types.specs.Event.{event_of, change_of, decision_of, document_of, new_job_of, on_job, call_of};
+ghost use Rattle.queue_types.specs.Event.{event_of, change_of, decision_of, document_of, new_job_of, call_of};
 ghost use Rattle.queue_core.specs.Limits.{IsMoment, IsEvent, IsCall, IsNewJob, IsFair, IsReplyTo, IsSoundChange};
-ghost use Rattle.queue_core.specs.Machine.{answered, decision, new_job, entered as entered_row, new_refusal, print_job_row, create_job_row, validate_job_row, printer_row, printer_state, call_row, step};
+ghost use Rattle.queue_core.specs.Machine.{answered, decision, new_job, entered as entered_row, new_refusal, print_job_row, create_job_row, validate_job_row, printer_row, printer_state, call_row, is_on_own, step};
 ghost use Rattle.queue_core.specs.Runs.{MovesAlong};
 ghost use Rattle.queue_core.specs.Sound.{IsSound, Balances};
 ghost use Rattle.queue_core.specs.World.{World, cut, made_on};
@@ -69,7 +69,7 @@ fn made_job(context: CallContext<'_>, asked: &NewJob<'_>, payload: &[u8]) -> Res
         hold: true,
         incoming: false,
         phase: Phase::Waiting,
-        stopping: false,
+        stopping: None,
         count: 0,
         created: context.now,
         begun: None,
@@ -175,17 +175,17 @@ fn show_printer<'a>(alloc: Global, scene: &Scene) -> Decision<'a>
     )
 }
 
-/// What the caller's call makes of the one job that it is about, where that is the caller's own.
+/// What a call on a job of the caller's own makes of it.
 fn answer_on_job<'a>(context: CallContext<'_>, call: &Call<'a>) -> Result<Decision<'a>, AllocError>
     requires fair { IsFair context.scene.now }
-    requires one { IsSome (on_job (call_of call.now)) }
+    requires own { IsTrue (is_on_own (call_of call.now)) }
     ensures { IfOk result (λ d. decision_of d ≡ call_row context.entry.scene.now context.entry.now context.entry.caller.now (call_of call.now)) }
 {
     let CallContext {
         alloc,
         scene,
-        now,
         caller,
+        ..
     } = context;
     let Some(job) = own(scene, caller) else {
         return Ok(refuse(alloc, CLIENT_ERROR_NOT_FOUND));
@@ -204,11 +204,9 @@ fn answer_on_job<'a>(context: CallContext<'_>, call: &Call<'a>) -> Result<Decisi
             };
             send(alloc, scene, job, sent)
         }
-        Call::CancelJob { .. } => cancel(alloc, scene, now, job),
         Call::HoldJob { .. } => hold(alloc, scene, job),
         Call::ReleaseJob { .. } => release(alloc, scene, job),
-        Call::GetJobAttributes { .. } => show(alloc, job),
-        _ => unreachable!("no other call is about one job"),
+        _ => unreachable!("no other call is on a job of the caller's own"),
     }
 }
 
@@ -221,7 +219,7 @@ fn answer_call<'a>(context: CallContext<'_>, call: &Call<'a>) -> Result<Decision
         alloc,
         scene,
         now,
-        ..
+        caller,
     } = context;
     match call {
         Call::PrintJob {
@@ -237,11 +235,11 @@ fn answer_call<'a>(context: CallContext<'_>, call: &Call<'a>) -> Result<Decision
         Call::CancelMyJobs { jobs: None } => cancel_all(alloc, scene, now),
         Call::GetJobs { .. } => show_jobs(alloc, scene),
         Call::GetPrinterAttributes => Ok(show_printer(alloc, scene)),
-        Call::SendDocument { .. }
-        | Call::CancelJob { .. }
-        | Call::HoldJob { .. }
-        | Call::ReleaseJob { .. }
-        | Call::GetJobAttributes { .. } => answer_on_job(context, call),
+        Call::CancelJob { .. } => cancel(alloc, scene, now, caller),
+        Call::GetJobAttributes { .. } => show(alloc, scene, caller),
+        Call::SendDocument { .. } | Call::HoldJob { .. } | Call::ReleaseJob { .. } => {
+            answer_on_job(context, call)
+        }
     }
 }
 

@@ -11,7 +11,7 @@ ghost use Rattle.queue_core.specs.Machine.{all_canceled, are_there, canceled, ca
 use crate::decision::{change_jobs, refuse};
 use crate::own_job::{can_cancel, canceled_job};
 use queue_types::event::{Decision, Reply, Scene};
-use queue_types::job::Job;
+use queue_types::job::{Job, Why};
 use queue_types::status::{CLIENT_ERROR_NOT_FOUND, CLIENT_ERROR_NOT_POSSIBLE};
 use std::alloc::{AllocError, Global};
 use std::collections::BTreeSet;
@@ -52,7 +52,7 @@ fn push_canceled(after: &mut Vec<Job>, now: u32, job: &Job) -> Result<(), AllocE
     ensures { OnOk result (after.new.items ≡ after.old.items ++ map (canceled now) (filter is_cancelable (job.now ∷ []))) }
 {
     if can_cancel(job) {
-        after.push(canceled_job(now, job)?)?;
+        after.push(canceled_job(now, Why::ByUser, job)?)?;
     }
     Ok(())
 }

@@ -5,13 +5,6 @@ ghost use Rattle.queue_core.specs.Limits as limits;
 
 use queue_types::limits::{MOST_BATCH_OCTETS, MOST_NAME_OCTETS};
 
-/// No byte is a control character of ASCII, as in the names of users and accounts.
-pub fn has_no_control(text: &[u8]) -> bool
-    ensures { result ≡ list_all limits.is_no_control text.now }
-{
-    text.iter().all(|b| 0x20 <= *b && *b != 0x7f)
-}
-
 /// No byte is zero, as in the names of jobs.
 pub fn has_no_zero(text: &[u8]) -> bool
     ensures { result ≡ list_all (λ b. nat_le 1 b) text.now }
@@ -30,13 +23,6 @@ pub fn are_batch_bytes(text: &[u8]) -> bool
     ensures { result ≡ list_all limits.is_batch_byte text.now }
 {
     text.iter().all(|b| is_batch_byte(*b))
-}
-
-/// The name of a user or an account: 1 to 255 octets without control characters.
-pub fn is_owner(text: &str) -> bool
-    ensures { IsTrue result ↔ limits.IsOwner text.now }
-{
-    !text.is_empty() && text.len() <= MOST_NAME_OCTETS && has_no_control(text.as_bytes())
 }
 
 /// The name of a job: 1 to 255 octets without a zero byte.

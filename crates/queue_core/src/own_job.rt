@@ -1,9 +1,10 @@
-//! What the machine decides on a job of the caller's own.
-ghost use Rattle.std.specs.Prelude.{◌≡◌, ◌≤◌, ◌∷◌, [], All, IfOk, IfSome, IsNone, option_map};
+//! What the machine decides on one job: of the caller's own, or any for an operator.
+ghost use Rattle.std.specs.Prelude.{◌≡◌, ◌≤◌, ◌∷◌, [], ◌||◌, All, IfOk, IfSome, IsNone, bytes_eq, option_map};
 ghost use Rattle.queue_types.specs.Event.{decision_of, document_of};
 ghost use Rattle.queue_types.specs.Job.{estimate};
+ghost use Rattle.queue_types.specs.Operators.{is_operator};
 ghost use Rattle.queue_core.specs.Limits.{IsFair, IsSoundJob};
-ghost use Rattle.queue_core.specs.Machine.{refused, answered, canceled, cancel_row, is_cancelable, document_count, has_pages, hold_in, is_sendable, let_print, new_document, of_own, release_in, send_in, sent};
+ghost use Rattle.queue_core.specs.Machine.{refused, answered, canceled_by, cancel_row, cause, is_cancelable, document_count, has_pages, hold_in, is_sendable, let_print, new_document, of_own, of_seen, release_in, send_in, sent};
 ghost use Rattle.queue_types.specs.declared.event.Reply.TheVariants.{Jobs};
 
 use crate::decision::{answer_only, change_job, job_becomes, one_job, refuse};
@@ -11,7 +12,7 @@ use queue_types::document::Format;
 use queue_types::event::{Decision, FreeRow, NewDocument, Reply, Scene};
 use queue_types::job::{Job, Phase, Why};
 use queue_types::limits::MOST_DOCUMENTS;
-use queue_types::status::CLIENT_ERROR_NOT_POSSIBLE;
+use queue_types::status::{CLIENT_ERROR_NOT_FOUND, CLIENT_ERROR_NOT_POSSIBLE};
 use std::alloc::{AllocError, Global};
 
 /// The job waits, or the device has it and was not asked to stop it.
@@ -20,43 +21,91 @@ pub(crate) fn can_cancel(job: &Job) -> bool
 {
     match job.phase {
         Phase::Waiting => true,
-        Phase::Running | Phase::Stopped => !job.stopping,
+        Phase::Running | Phase::Stopped => job.stopping.is_none(),
         Phase::Canceled(_) | Phase::Aborted | Phase::Completed => false,
     }
 }
 
 /// The job as it is once it is canceled: a waiting job ends, one that the device has is asked to stop.
-pub(crate) fn canceled_job(now: u32, job: &Job) -> Result<Job, AllocError>
-    ensures { IfOk result (λ k. k ≡ canceled now job.now) }
+pub(crate) fn canceled_job(now: u32, why: Why, job: &Job) -> Result<Job, AllocError>
+    ensures { IfOk result (λ k. k ≡ canceled_by why now job.now) }
 {
     let mut job = job.try_clone()?;
     match job.phase {
         Phase::Waiting => {
-            job.phase = Phase::Canceled(Why::ByUser);
+            job.phase = Phase::Canceled(why);
             job.hold = false;
             job.incoming = false;
             job.ended = Some(now);
         }
-        Phase::Running | Phase::Stopped => job.stopping = true,
+        Phase::Running | Phase::Stopped => job.stopping = Some(why),
         Phase::Canceled(_) | Phase::Aborted | Phase::Completed => {}
     }
     Ok(job)
 }
 
-pub(crate) fn cancel<'a>(
+/// The owner cancels its own job, and an operator another's.
+fn why_canceled(caller: &str, job: &Job) -> Why
+    ensures { result ≡ cause caller.now job.now }
+{
+    if job.owner.as_str() == caller {
+        Why::ByUser
+    } else {
+        Why::ByOperator
+    }
+}
+
+fn cancel_job<'a>(
     alloc: Global,
     scene: &Scene,
     now: u32,
+    why: Why,
     job: &Job,
 ) -> Result<Decision<'a>, AllocError>
     requires fair { IsFair scene.now }
     requires job { IsSoundJob job.now }
-    ensures { IfOk result (λ d. decision_of d ≡ cancel_row scene.now now job.now) }
+    ensures { IfOk result (λ d. decision_of d ≡ cancel_row scene.now now why job.now) }
 {
     if !can_cancel(job) {
         return Ok(refuse(alloc, CLIENT_ERROR_NOT_POSSIBLE));
     }
-    job_becomes(alloc, scene, canceled_job(now, job)?)
+    job_becomes(alloc, scene, canceled_job(now, why, job)?)
+}
+
+/// The caller may see and cancel the job: it is its own, or the caller is an operator.
+fn may_see(scene: &Scene, caller: &str, job: &Job) -> bool
+    ensures { result ≡ (bytes_eq job.now.owner caller.now || is_operator scene.now.settings.operators caller.now) }
+{
+    job.owner.as_str() == caller || scene.settings.operators().has(caller)
+}
+
+/// The job that the caller may see and cancel, the first of those that the event speaks of: another's job and no job are both none.
+fn seen<'s>(scene: &'s Scene, caller: &str) -> Option<&'s Job>
+    requires sound { All IsSoundJob scene.now.jobs }
+    ensures seen { IfSome result (λ j. (row : _) → of_seen scene.now.settings.operators caller.now row scene.now.jobs ≡ row j.now) }
+    ensures none { IsNone result → (row : _) → of_seen scene.now.settings.operators caller.now row scene.now.jobs ≡ refused 0x0406 }
+    ensures sound { IfSome result (λ j. IsSoundJob j.now) }
+{
+    match scene.jobs.as_slice() {
+        [job, ..] if may_see(scene, caller, job) => Some(job),
+        _ => None,
+    }
+}
+
+/// Cancels the job that the event speaks of.
+pub(crate) fn cancel<'a>(
+    alloc: Global,
+    scene: &Scene,
+    now: u32,
+    caller: &str,
+) -> Result<Decision<'a>, AllocError>
+    requires { IsFair scene.now }
+    ensures { IfOk result (λ d. decision_of d ≡ of_seen scene.now.settings.operators caller.now (λ j. cancel_row scene.now now (cause caller.now j) j) scene.now.jobs) }
+{
+    let Some(job) = seen(scene, caller) else {
+        return Ok(refuse(alloc, CLIENT_ERROR_NOT_FOUND));
+    };
+    cancel_job(alloc, scene, now, why_canceled(caller, job), job)
 }
 
 /// The caller's own job, the first of those that the event speaks of: another's job and no job are both none.
@@ -72,9 +121,18 @@ pub(crate) fn own<'s>(scene: &'s Scene, caller: &str) -> Option<&'s Job>
     }
 }
 
-pub(crate) fn show<'a>(alloc: Global, job: &Job) -> Result<Decision<'a>, AllocError>
-    ensures { IfOk result (λ d. decision_of d ≡ answered (Jobs (job.now ∷ []))) }
+/// Shows the job that the event speaks of.
+pub(crate) fn show<'a>(
+    alloc: Global,
+    scene: &Scene,
+    caller: &str,
+) -> Result<Decision<'a>, AllocError>
+    requires { IsFair scene.now }
+    ensures { IfOk result (λ d. decision_of d ≡ of_seen scene.now.settings.operators caller.now (λ j. answered (Jobs (j ∷ []))) scene.now.jobs) }
 {
+    let Some(job) = seen(scene, caller) else {
+        return Ok(refuse(alloc, CLIENT_ERROR_NOT_FOUND));
+    };
     let reply = one_job(alloc, job)?;
     Ok(answer_only(alloc, reply))
 }

@@ -35,16 +35,16 @@ fn ended_job(mut job: Job, phase: Phase, now: u32) -> Job
     ensures { result ≡ ended_as phase now job }
 {
     job.phase = phase;
-    job.stopping = false;
+    job.stopping = None;
     job.ended = Some(now);
     job
 }
 
-/// Its user ended it where a cancel was asked, and else the device.
-fn why(stopping: bool) -> Why
+/// Whoever asked to cancel it ended it, and if nobody did, the device.
+fn why(stopping: Option<Why>) -> Why
     ensures { result ≡ why_halted stopping }
 {
-    if stopping { Why::ByUser } else { Why::AtDevice }
+    stopping.unwrap_or(Why::AtDevice)
 }
 
 /// The job as it starts printing, where it is neither held nor open for documents.

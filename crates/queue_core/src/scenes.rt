@@ -1,13 +1,14 @@
 //! The scene of an event, put together of what was read for it.
 ghost use Rattle.std.specs.Prelude.{◌≡◌, [], IfOk, OnOk};
 ghost use Rattle.queue_types.specs.Settings.{AreSettings};
-ghost use Rattle.queue_core.specs.World.{jobs_scene as scene_of_jobs, queue_counts};
+ghost use Rattle.queue_core.specs.World.{jobs_scene as scene_of_jobs, queue_counts, shows_all};
 
 use queue_types::event::{
     FreeList, FreeRow, KeptReport, KnownGrant, KnownList, QueueCounts, Scene,
 };
 use queue_types::job::{Job, JobList};
 use queue_types::limits::FIRST_JOB_NUMBER;
+use queue_types::operators::OperatorNames;
 use queue_types::settings::Settings;
 use std::alloc::{AllocError, Global};
 
@@ -20,6 +21,13 @@ pub fn no_counts() -> QueueCounts
         stopped: 0,
         queued: 0,
     }
+}
+
+/// Get-Jobs shows an operator the jobs of all callers, unless it asks for its own alone.
+pub fn sees_all(operators: &OperatorNames, caller: &str, mine: bool) -> bool
+    ensures { result ≡ shows_all operators.now caller.now mine }
+{
+    operators.has(caller) && !mine
 }
 
 /// The scene of jobs and accounts alone: all else is as `Scene` has it where an event doesn't need it. The one error is

@@ -10,6 +10,7 @@ use Rattle.queue_core.specs.Machine.{decision, step, sent, canceled_in, expired}
 use Rattle.queue_core.specs.Sound.{IsSound}
 use Rattle.queue_types.specs.declared.event.Report.{Report}
 use Rattle.queue_types.specs.declared.job.Job.{Job}
+use Rattle.queue_types.specs.declared.job.Why.{Why}
 use Rattle.queue_types.specs.declared.job.Phase.{Phase}
 use Rattle.queue_types.specs.declared.job.Phase.TheVariants.{Waiting}
 use Rattle.queue_core.proofs.Moves.{at-with_row}
@@ -34,15 +35,15 @@ number_of n w j there = let found = named n (rows w) j there in (first_named n (
 abbrev IsReleased : List ℕ → Call → Job → Job → Type 0
 IsReleased caller call x j = IsFreed x j → ask caller call ≡ ask j.owner (release_job j.number)
 
-canceled_freed : (A : Type 0) (now : ℕ) (j : Job) (p : Phase) → IsFreed (canceled_in p now j) j → A
-canceled_freed A now j Waiting freed = let low = freed.2 in absurd (omega arith)
-canceled_freed A now j p freed = still_held A (canceled_in p now j) j refl freed
+canceled_freed : (A : Type 0) (why : Why) (now : ℕ) (j : Job) (p : Phase) → IsFreed (canceled_in why p now j) j → A
+canceled_freed A why now j Waiting freed = let low = freed.2 in absurd (omega arith)
+canceled_freed A why now j p freed = still_held A (canceled_in why p now j) j refl freed
 
 release_holds : (caller : List ℕ) (call : Call) → Holds caller call (IsReleased caller call)
 release_holds caller call = record {
   same = λ j. still_held _ j j refl;
   sent = λ j payload last sound incoming. still_held _ (sent j payload last) j refl;
-  canceled = λ now j. canceled_freed _ now j j.phase;
+  canceled = λ why now j asks can. canceled_freed _ why now j j.phase;
   held = λ j is freed. absurd (both_ways true freed.1 refl);
   released = λ j by own is freed. (λ i. ask (sym (same_key j.owner caller own) i) (by i));
 }

@@ -1,31 +1,24 @@
 -- What a report makes of what is a caller's own.
-use Rattle.std.proofs.Common.{◌≡◌, ℕ, List, [], ◌∷◌, map, refl, ap, sym, ◌∙◌, subst, inl, inr, Bool, true, false, cond}
+use Rattle.std.proofs.Common.{◌≡◌, ℕ, List, [], ◌∷◌, refl, ap, sym, ◌∙◌, subst, inl, inr, Bool, true, false, cond}
 use Rattle.std.specs.Prelude.{Some, None, nat_eq, bytes_eq, unwrap_or, ◌||◌}
 use Rattle.std.specs.List.{AllByRecursion as Each}
 use Rattle.std.specs.FinMap.{get}
 use Rattle.queue_types.specs.Settings.{SettingValues}
 use Rattle.queue_types.specs.Event.{Decision, tell}
-use Rattle.queue_core.specs.World.{World, Entry, rows, cut, made_on, numbered, found_row, owner_row, queue_counts, has_number}
-use Rattle.queue_core.specs.Machine.{decision, step, credited, accepted}
+use Rattle.queue_core.specs.World.{World, Entry, rows, cut, made_on, numbered, owner_row, queue_counts, has_number}
+use Rattle.queue_core.specs.Machine.{decision, step, accepted}
 use Rattle.queue_core.specs.Sound.{IsSound}
 use Rattle.queue_types.specs.declared.job.Job.{Job}
-use Rattle.queue_types.specs.declared.event.FreeRow.{FreeRow}
 use Rattle.queue_types.specs.declared.event.Report.{Report}
 use Rattle.queue_types.specs.declared.event.Scene.{Scene}
-use Rattle.queue_core.proofs.Ordered.{each-filter}
 use Rattle.queue_laws.specs.Own.{Own, own, own_jobs}
-use Rattle.queue_laws.proofs.Asked.{nothing_by, credited_by, number_of}
-use Rattle.queue_laws.proofs.Base.{at, rows_of, same_key}
+use Rattle.queue_laws.proofs.Asked.{nothing_by, each_credited, number_of}
+use Rattle.queue_laws.proofs.Base.{at}
 use Rattle.queue_laws.proofs.Callers.{IsBy, IsNumberOf, own_made, own_made_on, others_made}
-use Rattle.queue_laws.proofs.Seen.{named, own_or_others}
+use Rattle.queue_laws.proofs.Seen.{named, own_or_others, own_free_row, own_account, each_own}
 use Rattle.queue_laws.proofs.Telling.{IsAccepted, declined, known, taken, telling, named_before}
 
 -- ---- an accepted report is a change by the owner of its job
-
-each_credited : (w : World) (owner : List ℕ) (j x : Job) (rest js : List Job) → js ≡ j ∷ rest → j.owner ≡ owner → Each (λ (f : FreeRow). f.account ≡ owner) (map (credited js (x ∷ [])) (owner_row w.free js))
-each_credited w owner j x rest js e own =
-    subst (λ js. Each (λ (f : FreeRow). f.account ≡ owner) (map (credited js (x ∷ [])) (owner_row w.free js))) (sym e)
-    (subst (λ a. Each (λ (f : FreeRow). f.account ≡ a) (map (credited (j ∷ rest) (x ∷ [])) (found_row j.owner (get w.free j.owner)))) own (credited_by j.owner (j ∷ rest) (x ∷ []) (get w.free j.owner)))
 
 accepted_by : (w : World) (now : ℕ) (r : Report) (d : Decision) → IsSound w → (a : IsAccepted w now r d) → (owner : List ℕ) → a.before.owner ≡ owner → IsBy owner w d.change
 accepted_by w now r d sound a owner own =
@@ -47,7 +40,7 @@ accepted_by w now r d sound a owner own =
 -- ---- whose job it is
 
 -- the job of a number that is u's is among u's
-own_has : (u : List ℕ) (n : ℕ) (es : List Entry) (j : Job) → at n es ≡ Some j → bytes_eq j.owner u ≡ true → has_number n (own_jobs u es) ≡ true
+pub own_has : (u : List ℕ) (n : ℕ) (es : List Entry) (j : Job) → at n es ≡ Some j → bytes_eq j.owner u ≡ true → has_number n (own_jobs u es) ≡ true
 own_has u n [] j there own = absurd (cc)
 own_has u n (e ∷ es) j there own =
     elim (nat_eq e.row.number n) as (λ t. nat_eq e.row.number n ≡ t → cond t (Some e.row) (at n es) ≡ Some j → has_number n (cond (bytes_eq e.row.owner u) (e ∷ own_jobs u es) (own_jobs u es)) ≡ true) [
@@ -69,6 +62,13 @@ none_has n (x ∷ es) e =
       | true ↦ λ e. absurd (cc)
       | false ↦ λ e. none_has n es e
     ] e
+
+-- where u has a job of that number, all jobs of that number are u's
+pub all_own : (u : List ℕ) (n : ℕ) (w : World) → IsSound w → has_number n (own_jobs u w.jobs) ≡ true → numbered n (rows w) ≡ named n (own_jobs u w.jobs)
+all_own u n w sound has = elim (own_or_others u n 1 w.next w.jobs sound.numbers) as (λ o. numbered n (rows w) ≡ named n (own_jobs u w.jobs)) [
+  | inl is ↦ is
+  | inr others ↦ (let no : has_number n (own_jobs u w.jobs) ≡ false = none_has n (own_jobs u w.jobs) others.0 in absurd (cc))
+]
 
 -- ---- a report on another's job, or on none
 
@@ -92,10 +92,6 @@ module _ (u : List ℕ) (w : World) (now : ℕ) (r : Report) (sound : IsSound w)
 
 -- ---- a report on a job of the caller's own
 
-abbrev own_free_row : List ℕ → Own → List Job → List FreeRow
-own_free_row u o [] = []
-own_free_row u o (j ∷ js) = found_row u o.free
-
 -- the scene that is cut from what is the caller's own
 abbrev pub seen_report : List ℕ → SettingValues → Own → Report → Scene
 seen_report u s o r = record {
@@ -112,29 +108,12 @@ seen_report u s o r = record {
 abbrev pub own_heard_on : List ℕ → SettingValues → ℕ → Report → Own → Own
 own_heard_on u s now r o = own_made_on u (decision (seen_report u s o r) now (tell r)).change o
 
-owners : (u : List ℕ) (es : List Entry) → Each (λ (j : Job). j.owner ≡ u) (rows_of (own_jobs u es))
-owners u [] = tt
-owners u (e ∷ es) = elim (bytes_eq e.row.owner u) as (λ b. bytes_eq e.row.owner u ≡ b → Each (λ (j : Job). j.owner ≡ u) (rows_of (cond b (e ∷ own_jobs u es) (own_jobs u es)))) [
-  | true ↦ λ is. (same_key e.row.owner u is, owners u es)
-  | false ↦ λ is. owners u es
-] refl
-
 module _ (u : List ℕ) (w : World) (now : ℕ) (r : Report) (sound : IsSound w) (yes : has_number r.job (own_jobs u w.jobs) ≡ true) where
   all : numbered r.job (rows w) ≡ named r.job (own_jobs u w.jobs)
-  all = elim (own_or_others u r.job 1 w.next w.jobs sound.numbers) as (λ o. numbered r.job (rows w) ≡ named r.job (own_jobs u w.jobs)) [
-    | inl is ↦ is
-    | inr others ↦ (let no : has_number r.job (own_jobs u w.jobs) ≡ false = none_has r.job (own_jobs u w.jobs) others.0 in absurd (cc))
-  ]
-
-  each_own : Each (λ (j : Job). j.owner ≡ u) (named r.job (own_jobs u w.jobs))
-  each_own = each-filter (λ (j : Job). j.owner ≡ u) (λ j. nat_eq j.number r.job) (rows_of (own_jobs u w.jobs)) (owners u w.jobs)
-
-  free_of_own : (js : List Job) → Each (λ (j : Job). j.owner ≡ u) js → owner_row w.free js ≡ own_free_row u (own u w) js
-  free_of_own [] each = refl
-  free_of_own (j ∷ js) each = ap (λ a. found_row a (get w.free a)) each.0
+  all = all_own u r.job w sound yes
 
   free_same : owner_row w.free (numbered r.job (rows w)) ≡ own_free_row u (own u w) (named r.job (own_jobs u w.jobs))
-  free_same = ap (owner_row w.free) all ∙ free_of_own (named r.job (own_jobs u w.jobs)) each_own
+  free_same = own_account u r.job w all
 
   kept_same : get w.reports (r.job, r.seq) ≡ (own u w).reports r.job r.seq
   kept_same = sym (ap (λ b. cond b (get w.reports (r.job, r.seq)) None) yes)
@@ -149,7 +128,7 @@ module _ (u : List ℕ) (w : World) (now : ℕ) (r : Report) (sound : IsSound w)
   heard_reply = ap (λ (d : Decision). d.reply) decided_same
 
   first_own : (j : Job) (rest : List Job) → numbered r.job (rows w) ≡ j ∷ rest → j.owner ≡ u
-  first_own j rest e = (subst (λ js. Each (λ (j : Job). j.owner ≡ u) js) (sym all ∙ e) each_own).0
+  first_own j rest e = (subst (λ js. Each (λ (j : Job). j.owner ≡ u) js) (sym all ∙ e) (each_own u r.job w)).0
 
   heard_by : IsBy u w (decision (cut w now (tell r)) now (tell r)).change
   heard_by = elim (telling w now r) as (λ _. IsBy u w (decision (cut w now (tell r)) now (tell r)).change) [

@@ -23,6 +23,7 @@ pub mod Sheets
 pub mod Heard
 pub mod Shared
 pub mod Swept
+pub mod Canceling
 pub mod TwoRuns
 pub mod Overdue
 pub mod Thinned

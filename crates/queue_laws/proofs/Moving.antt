@@ -18,9 +18,10 @@ use Rattle.queue_types.specs.declared.event.ReportRefusal.TheVariants.{NoJob, St
 use Rattle.queue_types.specs.declared.event.Reply.TheVariants.{Told, NotTold}
 use Rattle.queue_types.specs.declared.event.Scene.{Scene}
 use Rattle.queue_types.specs.declared.job.Job.{Job}
+use Rattle.queue_types.specs.declared.job.Why.{Why}
 use Rattle.queue_types.specs.declared.job.Phase.{Phase}
 use Rattle.queue_types.specs.declared.job.Phase.TheVariants.{Waiting, Running, Stopped, Canceled, Aborted, Completed}
-use Rattle.queue_types.specs.declared.job.Why.TheVariants.{ByUser, AtDevice}
+use Rattle.queue_types.specs.declared.job.Why.TheVariants.{AtDevice}
 use Rattle.queue_types.specs.declared.states.JobState.{JobState}
 use Rattle.queue_types.specs.declared.states.JobState.TheVariants.{Processing, ProcessingStopped, Canceled as CanceledState, Aborted as AbortedState, Completed as CompletedState}
 use Rattle.queue_core.proofs.Moves.{at-with_row}
@@ -123,14 +124,14 @@ module _ (w : World) (now : ℕ) (r : Report) where
       pub failed : r.kind ≡ Fail → 5 ≤ state j → state j ≤ 6 → Becomes r AbortedState (ended_by Aborted now j) (step w now (tell r))
       failed kind high low = becomes none AbortedState (ended_by Aborted now j) (of_kind Fail _ kind (fails now y j.phase high low)) refl refl
 
-      halted : (b : Bool) → r.kind ≡ Halt → 5 ≤ state j → state j ≤ 6 → j.stopping ≡ b → Becomes r CanceledState (ended_by (Canceled (why_halted b)) now j) (step w now (tell r))
-      halted b kind high low asked = becomes none CanceledState (ended_by (Canceled (why_halted b)) now j) (of_kind Halt _ kind (halts now y j.phase high low) ∙ ap (λ b. Some (ended_as (Canceled (why_halted b)) now y)) asked) refl refl
+      halted : (o : Option Why) → r.kind ≡ Halt → 5 ≤ state j → state j ≤ 6 → j.stopping ≡ o → Becomes r CanceledState (ended_by (Canceled (why_halted o)) now j) (step w now (tell r))
+      halted o kind high low asked = becomes none CanceledState (ended_by (Canceled (why_halted o)) now j) (of_kind Halt _ kind (halts now y j.phase high low) ∙ ap (λ o. Some (ended_as (Canceled (why_halted o)) now y)) asked) refl refl
 
-      pub halted_for_user : r.kind ≡ Halt → 5 ≤ state j → state j ≤ 6 → j.stopping ≡ true → Becomes r CanceledState (ended_by (Canceled ByUser) now j) (step w now (tell r))
-      halted_for_user = halted true
+      pub halted_for_asker : (why : Why) → r.kind ≡ Halt → 5 ≤ state j → state j ≤ 6 → j.stopping ≡ Some why → Becomes r CanceledState (ended_by (Canceled why) now j) (step w now (tell r))
+      halted_for_asker why = halted (Some why)
 
-      pub halted_at_device : r.kind ≡ Halt → 5 ≤ state j → state j ≤ 6 → j.stopping ≡ false → Becomes r CanceledState (ended_by (Canceled AtDevice) now j) (step w now (tell r))
-      halted_at_device = halted false
+      pub halted_at_device : r.kind ≡ Halt → 5 ≤ state j → state j ≤ 6 → j.stopping ≡ None → Becomes r CanceledState (ended_by (Canceled AtDevice) now j) (step w now (tell r))
+      halted_at_device = halted None
 
       -- ---- not taken
 

@@ -14,6 +14,7 @@ use Rattle.queue_core.specs.Machine.{step, taken, given_back, returned, canceled
 use Rattle.queue_core.specs.Sound.{IsSound}
 use Rattle.queue_core.proofs.Many.{returned-cons}
 use Rattle.queue_types.specs.declared.job.Job.{Job}
+use Rattle.queue_types.specs.declared.job.Why.TheVariants.{ByUser}
 use Rattle.queue_types.specs.declared.job.Phase.{Phase}
 use Rattle.queue_types.specs.declared.job.Phase.TheVariants.{Waiting, Running, Stopped}
 use Rattle.queue_types.specs.declared.event.Scene.{Scene}
@@ -43,7 +44,7 @@ whole owing count = omega (arith, ints)
 none : (n : ℕ) → pos n -ℤ pos n ≡ pos 0
 none n = omega (arith, ints)
 
-amount : (now : ℕ) (j : Job) (p : Phase) → pos (taken j) -ℤ pos (taken (canceled_in p now j)) ≡ pos (cond (nat_le (state_in p j.hold j.incoming) 4) (owed j) 0)
+amount : (now : ℕ) (j : Job) (p : Phase) → pos (taken j) -ℤ pos (taken (canceled_in ByUser p now j)) ≡ pos (cond (nat_le (state_in p j.hold j.incoming) 4) (owed j) 0)
 amount now j Waiting = whole (owed j) j.count ∙ ap (λ t. pos (cond t (owed j) 0)) (sym (le-leb (state_in Waiting j.hold j.incoming) 4 (few_waiting j.hold j.incoming)))
 amount now j _ = none (taken j)
 
@@ -56,7 +57,7 @@ module _ (now : ℕ) (caller : List ℕ) (before : List Job) where
   one_back : (j : Job) → IsOwn j → given_back before caller (canceled now j) ≡ pos (freed j)
   one_back j is =
       let x : Job = canceled now j in
-      let same = same_canceled now j j.phase in
+      let same = same_canceled ByUser now j j.phase in
       ap (λ t. cond t (pos (option_map_or taken (job_at x.number before) 0) -ℤ pos (taken x)) (pos 0)) (ap (λ a. bytes_eq a caller) same.owner ∙ is.1)
       ∙ ap (λ o. pos (option_map_or taken o 0) -ℤ pos (taken x)) (ap (λ n. job_at n before) same.number ∙ is.0)
       ∙ amount now j j.phase
@@ -152,4 +153,4 @@ module _ (w : World) (now : ℕ) (caller : List ℕ) (free : ℤ) (sound : IsSou
         ∙ ap (λ n. Some (free +ℤ pos n)) same_pages
 
     pub named_free : refuses (step w now (ask caller (cancel_my_jobs (Some numbers)))).reply ≡ false → get (step w now (ask caller (cancel_my_jobs (Some numbers)))).world.free caller ≡ Some (free +ℤ pos pages)
-    named_free = on_named FreeUnless named now numbers (λ taken. all_free) (λ code never. absurd (true≢false never))
+    named_free = on_named FreeUnless named now numbers (λ all taken. all_free) (λ code never. absurd (true≢false never))

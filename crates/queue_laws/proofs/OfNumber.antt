@@ -8,6 +8,7 @@ use Rattle.queue_core.specs.World.{Entry, with_row}
 use Rattle.queue_core.specs.Machine.{canceled}
 use Rattle.queue_core.specs.Sound.{Rise}
 use Rattle.queue_types.specs.declared.job.Job.{Job}
+use Rattle.queue_types.specs.declared.job.Why.TheVariants.{ByUser}
 use Rattle.queue_laws.specs.Doing.{entry_at}
 use Rattle.queue_laws.proofs.Asked.{same_canceled}
 use Rattle.queue_laws.proofs.Base.{at, rows_of, fresh, equal}
@@ -41,7 +42,7 @@ module _ (now n : ℕ) where
 
   pub stays_at : (ks : List Job) (es : List Entry) → Each (λ k. is_of k ≡ false) ks → entry_at n (fold with_row es (map (canceled now) ks)) ≡ entry_at n es
   stays_at [] es each = refl
-  stays_at (k ∷ ks) es each = stays_at ks (with_row es (canceled now k)) each.1 ∙ other_row_at n (canceled now k) es (ap (λ m. nat_eq m n) (same_canceled now k k.phase).number ∙ each.0)
+  stays_at (k ∷ ks) es each = stays_at ks (with_row es (canceled now k)) each.1 ∙ other_row_at n (canceled now k) es (ap (λ m. nat_eq m n) (same_canceled ByUser now k k.phase).number ∙ each.0)
 
   -- the job as it was, or canceled
   abbrev pub once : Entry → Bool → Entry
@@ -52,9 +53,9 @@ module _ (now n : ℕ) where
   canceled_at e (k ∷ ks) es b each before =
       elim (nat_eq k.number n) as (λ t. nat_eq k.number n ≡ t → entry_at n (fold with_row (with_row es (canceled now k)) (map (canceled now) ks)) ≡ Some (once e (b || (t || list_any is_of ks)))) [
         | true ↦ λ is.
-            let put : entry_at n (with_row es (canceled now k)) ≡ Some (once e true) = with_row_at n (canceled now k) es (once e b) ((same_canceled now k k.phase).number ∙ equal k.number n is) before ∙ ap (λ j. Some (record e { row = canceled now j })) (each.0 is) in
+            let put : entry_at n (with_row es (canceled now k)) ≡ Some (once e true) = with_row_at n (canceled now k) es (once e b) ((same_canceled ByUser now k k.phase).number ∙ equal k.number n is) before ∙ ap (λ j. Some (record e { row = canceled now j })) (each.0 is) in
             canceled_at e ks (with_row es (canceled now k)) true each.1 put ∙ ap (λ b. Some (once e b)) (sym (or_right b true refl))
-        | false ↦ λ is. canceled_at e ks (with_row es (canceled now k)) b each.1 (other_row_at n (canceled now k) es (ap (λ m. nat_eq m n) (same_canceled now k k.phase).number ∙ is) ∙ before)
+        | false ↦ λ is. canceled_at e ks (with_row es (canceled now k)) b each.1 (other_row_at n (canceled now k) es (ap (λ m. nat_eq m n) (same_canceled ByUser now k k.phase).number ∙ is) ∙ before)
       ] refl
 
 -- ---- whether the job of a number is among those that are chosen

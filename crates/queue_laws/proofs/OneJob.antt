@@ -3,11 +3,14 @@ use Rattle.std.proofs.Common.{◌≡◌, ℕ, List, [], ◌∷◌, map, refl, ap
 use Rattle.std.specs.Prelude.{Some, None, nat_eq, bytes_eq, filter, ◌&&◌, ◌||◌}
 use Rattle.std.specs.List.{list_all, list_any, AllByRecursion as Each}
 use Rattle.std.proofs.lemmas.Bool.{and_right, or_right}
+use Rattle.std.proofs.Math.Bool.{or-false}
 use Rattle.queue_types.specs.Event.{Decision, ask, cancel_my_jobs, get_job_attributes}
+use Rattle.queue_types.specs.Operators.{is_operator}
 use Rattle.queue_core.specs.World.{World, rows, cut, job_at, numbered, is_one_of}
-use Rattle.queue_core.specs.Machine.{step, answered, refused, becomes, canceled, is_cancelable, cancel_row, all_canceled, sent, document_sent, send_in, hold_in, release_in, of_own}
+use Rattle.queue_core.specs.Machine.{step, answered, refused, becomes, canceled_by, is_cancelable, cancel_row, all_canceled, sent, document_sent, send_in, hold_in, release_in, of_own, of_seen}
 use Rattle.queue_types.specs.declared.document.Format.{Format}
 use Rattle.queue_types.specs.declared.job.Job.{Job}
+use Rattle.queue_types.specs.declared.job.Why.{Why}
 use Rattle.queue_types.specs.declared.event.Reply.{Reply}
 use Rattle.queue_types.specs.declared.event.Reply.TheVariants.{Refused, Done, Jobs}
 use Rattle.queue_types.specs.declared.event.Scene.{Scene}
@@ -40,8 +43,8 @@ shown d js is e = cc
 pub finds_sent : (s : Scene) (j : Job) (format : Format) (payload : List ℕ) (last : Bool) → Finds (send_in s j format payload last)
 finds_sent s j format payload last = on_send Finds s j format payload last (λ can. shown (document_sent s j format payload last) (sent j payload last ∷ []) refl) not_possible
 
-pub finds_canceled : (s : Scene) (now : ℕ) (j : Job) → Finds (cancel_row s now j)
-finds_canceled s now j = on_cancel Finds s j now (done (becomes s (canceled now j)) refl) not_possible
+pub finds_canceled : (s : Scene) (now : ℕ) (why : Why) (j : Job) → Finds (cancel_row s now why j)
+finds_canceled s now why j = on_cancel Finds s j now why (λ can. done (becomes s (canceled_by why now j)) refl) not_possible
 
 pub finds_held : (s : Scene) (j : Job) → Finds (hold_in j.phase s j)
 finds_held s j = on_hold Finds s j (λ waits. done (becomes s (record j { hold = true })) refl) not_possible
@@ -55,20 +58,48 @@ finds_shown j = shown (answered (Jobs (j ∷ []))) (j ∷ []) refl
 -- ---- the job of a number
 
 module _ (caller : List ℕ) (js : List Job) (row : Job → Decision) where
-  pub of_none : (n : ℕ) → job_at n js ≡ None → (of_own caller row (numbered n js)).reply ≡ Refused 0x0406
-  of_none n none = ap (λ ks. (of_own caller row ks).reply) (none_named n js none)
-
   pub of_job : (n : ℕ) (j : Job) → job_at n js ≡ Some j → (b : Bool) → bytes_eq j.owner caller ≡ b → of_own caller row (numbered n js) ≡ cond b (row j) (refused 0x0406)
   of_job n j there b is = let at = named n js j there in ap (of_own caller row) at.is ∙ ap (λ b. cond b (row j) (refused 0x0406)) is
 
-  pub of_others : (n : ℕ) (j : Job) → job_at n js ≡ Some j → bytes_eq j.owner caller ≡ false → (of_own caller row (numbered n js)).reply ≡ Refused 0x0406
-  of_others n j there other = ap (λ (d : Decision). d.reply) (of_job n j there false other)
+-- of the job of a number that the caller may see: its own, or any
+abbrev pub of_any : Bool → List ℕ → (Job → Decision) → List Job → Decision
+of_any any caller row [] = refused 0x0406
+of_any any caller row (j ∷ js) = cond (bytes_eq j.owner caller || any) (row j) (refused 0x0406)
 
-  pub of_callers : (n : ℕ) (j : Job) → ((k : Job) → Finds (row k)) → job_at n js ≡ Some j → bytes_eq j.owner caller ≡ true → Finds (of_own caller row (numbered n js))
-  of_callers n j finds there own e = finds j (sym (ap (λ (d : Decision). d.reply) (of_job n j there true own)) ∙ e)
+pub own_any : (caller : List ℕ) (row : Job → Decision) (js : List Job) → of_own caller row js ≡ of_any false caller row js
+own_any caller row [] = refl
+own_any caller row (j ∷ js) = ap (λ b. cond b (row j) (refused 0x0406)) (sym (or-false (bytes_eq j.owner caller)))
+
+pub seen_any : (operators : List (List ℕ)) (caller : List ℕ) (row : Job → Decision) (js : List Job) → of_seen operators caller row js ≡ of_any (is_operator operators caller) caller row js
+seen_any operators caller row [] = refl
+seen_any operators caller row (j ∷ js) = refl
+
+-- to a caller that is no operator another's job is none
+pub seen_own : (operators : List (List ℕ)) (caller : List ℕ) (row : Job → Decision) (js : List Job) → is_operator operators caller ≡ false → of_seen operators caller row js ≡ of_own caller row js
+seen_own operators caller row js plain = seen_any operators caller row js ∙ ap (λ b. of_any b caller row js) plain ∙ sym (own_any caller row js)
+
+module _ (any : Bool) (caller : List ℕ) (js : List Job) (row : Job → Decision) where
+  pub any_none : (n : ℕ) → job_at n js ≡ None → (of_any any caller row (numbered n js)).reply ≡ Refused 0x0406
+  any_none n none = ap (λ ks. (of_any any caller row ks).reply) (none_named n js none)
+
+  pub any_job : (n : ℕ) (j : Job) → job_at n js ≡ Some j → (b : Bool) → (bytes_eq j.owner caller || any) ≡ b → of_any any caller row (numbered n js) ≡ cond b (row j) (refused 0x0406)
+  any_job n j there b is = let at = named n js j there in ap (of_any any caller row) at.is ∙ ap (λ b. cond b (row j) (refused 0x0406)) is
+
+  pub any_others : (n : ℕ) (j : Job) → job_at n js ≡ Some j → bytes_eq j.owner caller ≡ false → any ≡ false → (of_any any caller row (numbered n js)).reply ≡ Refused 0x0406
+  any_others n j there other none = ap (λ (d : Decision). d.reply) (any_job n j there false (ap (λ b. b || any) other ∙ none))
+
+  pub any_callers : (n : ℕ) (j : Job) → ((k : Job) → Finds (row k)) → job_at n js ≡ Some j → bytes_eq j.owner caller ≡ true → Finds (of_any any caller row (numbered n js))
+  any_callers n j finds there own e = finds j (sym (ap (λ (d : Decision). d.reply) (any_job n j there true (ap (λ b. b || any) own))) ∙ e)
+
+pub shown_seen : (w : World) (now n : ℕ) (caller : List ℕ) (j : Job) → job_at n (rows w) ≡ Some j → (bytes_eq j.owner caller || is_operator w.settings.operators caller) ≡ true → (step w now (ask caller (get_job_attributes n))).reply ≡ Jobs (j ∷ [])
+shown_seen w now n caller j there may =
+    ap (λ (d : Decision). d.reply) (seen_any w.settings.operators caller (λ j. answered (Jobs (j ∷ []))) (numbered n (rows w)) ∙ any_job (is_operator w.settings.operators caller) caller (rows w) (λ j. answered (Jobs (j ∷ []))) n j there true may)
 
 pub shown_own : (w : World) (now n : ℕ) (caller : List ℕ) (j : Job) → job_at n (rows w) ≡ Some j → bytes_eq j.owner caller ≡ true → (step w now (ask caller (get_job_attributes n))).reply ≡ Jobs (j ∷ [])
-shown_own w now n caller j there own = ap (λ (d : Decision). d.reply) (of_job caller (rows w) (λ j. answered (Jobs (j ∷ []))) n j there true own)
+shown_own w now n caller j there own = shown_seen w now n caller j there (ap (λ b. b || is_operator w.settings.operators caller) own)
+
+pub shown_any : (w : World) (now n : ℕ) (caller : List ℕ) (j : Job) → is_operator w.settings.operators caller ≡ true → job_at n (rows w) ≡ Some j → (step w now (ask caller (get_job_attributes n))).reply ≡ Jobs (j ∷ [])
+shown_any w now n caller j operator there = shown_seen w now n caller j there (or_right (bytes_eq j.owner caller) (is_operator w.settings.operators caller) operator)
 
 -- ---- Cancel-My-Jobs with numbers
 

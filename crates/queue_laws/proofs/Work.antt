@@ -1,17 +1,19 @@
 -- What a request leaves of the jobs that it changes.
 use Rattle.std.proofs.Common.{◌≡◌, ℕ, ◌+◌, List, [], ◌∷◌, map, refl, ap, sym, ◌∙◌, subst, Bool, true, false, cond}
 use Rattle.std.specs.Prelude.{Option, Some, None, nat_eq, nat_le, bytes_eq, filter, fold, ◌&&◌}
-use Rattle.std.specs.List.{AllByRecursion as Each}
+use Rattle.std.specs.List.{list_all, AllByRecursion as Each}
 use Rattle.std.proofs.lemmas.Bool.{and_parts}
 use Rattle.std.proofs.lemmas.Option.{same_Some, none-some}
 use Rattle.queue_types.specs.Job.{is_live}
 use Rattle.queue_types.specs.Event.{Call, Decision, NewDocument, ask, print_job, validate_job, create_job, send_document, cancel_job, cancel_my_jobs, hold_job, release_job, get_job_attributes}
 use Rattle.queue_core.specs.World.{World, Entry, rows, cut, made_on, job_at, numbered, with_row, add_document, with_document, is_one_of}
-use Rattle.queue_core.specs.Machine.{decision, step, document_count, answered, entered, new_job, new_document, new_refusal, unless_refused, validate_job_row, canceled, canceled_in, is_cancelable, cancel_row, cancel_my_jobs_row, sent, send_in, hold_in, release_in, of_own}
+use Rattle.queue_core.specs.Machine.{decision, step, document_count, answered, entered, new_job, new_document, new_refusal, unless_refused, validate_job_row, canceled, canceled_by, canceled_in, cause, is_cancelable, cancel_row, cancel_my_jobs_row, sent, send_in, hold_in, release_in, of_own, of_seen}
 use Rattle.queue_core.specs.Limits.{IsSoundJob}
 use Rattle.queue_core.specs.Sound.{IsSound, IsSoundEntry}
 use Rattle.queue_types.specs.declared.document.Format.{Format}
 use Rattle.queue_types.specs.declared.job.Job.{Job}
+use Rattle.queue_types.specs.declared.job.Why.{Why}
+use Rattle.queue_types.specs.declared.job.Why.TheVariants.{ByUser, ByOperator}
 use Rattle.queue_types.specs.declared.job.Phase.{Phase}
 use Rattle.queue_types.specs.declared.job.Phase.TheVariants.{Waiting}
 use Rattle.queue_types.specs.declared.event.Reply.TheVariants.{Done, Jobs}
@@ -21,10 +23,10 @@ use Rattle.queue_core.proofs.Enter.{none_new}
 use Rattle.queue_core.proofs.Ordered.{each-filter}
 use Rattle.queue_laws.specs.Jobs.{IsSameWork}
 use Rattle.queue_laws.proofs.Asked.{same_canceled}
-use Rattle.queue_laws.proofs.Base.{at, rows_of, equal, first_named}
+use Rattle.queue_laws.proofs.Base.{at, rows_of, equal, first_named, each_map, each_both, passed}
 use Rattle.queue_laws.proofs.Callers.{document_row}
 use Rattle.queue_laws.proofs.Standing.{Stands, all_stand}
-use Rattle.queue_laws.proofs.Rows.{on_own, on_new, on_named, on_send, on_cancel, on_hold, on_release}
+use Rattle.queue_laws.proofs.Rows.{on_own, on_seen, on_new, on_named, on_send, on_cancel, on_hold, on_release}
 
 -- ---- rows and documents
 
@@ -47,24 +49,24 @@ sound_at n j (e ∷ es) each there =
 
 -- ---- what holds between a job and what it was
 
--- it holds of a job that stays, is sent a document, canceled or held, and of one of the caller's own that is released by
--- its number
+-- it holds of a job that stays, is sent a document, canceled by the caller where it can be, or held, and of one of the caller's own
+-- that is released by its number
 pub record Holds (caller : List ℕ) (call : Call) (R : Job → Job → Type 0) : Type 0 where
   pub same : (j : Job) → R j j
   pub sent : (j : Job) (payload : List ℕ) (last : Bool) → IsSoundJob j → j.incoming ≡ true → R (sent j payload last) j
-  pub canceled : (now : ℕ) (j : Job) → R (canceled now j) j
+  pub canceled : (why : Why) (now : ℕ) (j : Job) → why ≡ cause caller j → is_cancelable j ≡ true → R (canceled_by why now j) j
   pub held : (j : Job) → j.phase ≡ Waiting → R (record j { hold = true }) j
   pub released : (j : Job) → call ≡ release_job j.number → bytes_eq j.owner caller ≡ true → j.phase ≡ Waiting → R (record j { hold = false }) j
 
-canceled_same : (now : ℕ) (j : Job) (p : Phase) → IsSameWork (canceled_in p now j) j
-canceled_same now j Waiting = refl
-canceled_same now j _ = refl
+canceled_same : (why : Why) (now : ℕ) (j : Job) (p : Phase) → IsSameWork (canceled_in why p now j) j
+canceled_same why now j Waiting = refl
+canceled_same why now j _ = refl
 
 work_holds : (caller : List ℕ) (call : Call) → Holds caller call IsSameWork
 work_holds caller call = record {
   same = λ j. refl;
   sent = λ j payload last sound incoming. refl;
-  canceled = λ now j. canceled_same now j j.phase;
+  canceled = λ why now j asks can. canceled_same why now j j.phase;
   held = λ j is. refl;
   released = λ j by own is. refl;
 }
@@ -110,13 +112,17 @@ module _ (caller : List ℕ) (call : Call) (R : Job → Job → Type 0) (holds :
   own_work : (n : ℕ) (row : Job → Decision) → ((j : Job) → at n w.jobs ≡ Some j → j.number ≡ n → bytes_eq j.owner caller ≡ true → AreWork (row j)) → AreWork (of_own caller row (numbered n (rows w)))
   own_work n row each = on_own AreWork caller row (numbered n (rows w)) (λ j rest e. let found = first_named n (rows w) j rest e in each j found.0 found.1) tt
 
+  seen_work : (n : ℕ) (row : Job → Decision) → ((j : Job) → at n w.jobs ≡ Some j → j.number ≡ n → AreWork (row j)) → AreWork (of_seen w.settings.operators caller row (numbered n (rows w)))
+  seen_work n row each = on_seen AreWork w.settings.operators caller row (numbered n (rows w)) (λ j rest e. let found = first_named n (rows w) j rest e in each j found.0 found.1) tt
+
   module _ (n : ℕ) (s : Scene) (j : Job) (there : at n w.jobs ≡ Some j) (number : j.number ≡ n) where
     sent_work : (format : Format) (payload : List ℕ) (last : Bool) → AreWork (send_in s j format payload last)
     sent_work format payload last = on_send AreWork s j format payload last (λ can.
         (one_work n j (sent j payload last) there number (holds.sent j payload last (sound_at n j w.jobs sound.entries there) (and_parts j.incoming (nat_le (j.documents + document_count payload) 16) can).0), tt)) tt
 
-    canceled_work : (now : ℕ) → AreWork (cancel_row s now j)
-    canceled_work now = on_cancel AreWork s j now (one_work n j (canceled now j) there ((same_canceled now j j.phase).number ∙ number) (holds.canceled now j), tt) tt
+    canceled_work : (now : ℕ) → AreWork (cancel_row s now (cause caller j) j)
+    canceled_work now = on_cancel AreWork s j now (cause caller j)
+        (λ can. (one_work n j (canceled_by (cause caller j) now j) there ((same_canceled (cause caller j) now j j.phase).number ∙ number) (holds.canceled (cause caller j) now j refl can), tt)) tt
 
     held_work : AreWork (hold_in j.phase s j)
     held_work = on_hold AreWork s j (λ waits. (one_work n j (record j { hold = true }) there number (holds.held j waits), tt)) tt
@@ -126,12 +132,28 @@ module _ (caller : List ℕ) (call : Call) (R : Job → Job → Type 0) (holds :
 
   -- ---- several of the caller's jobs
 
-  each_work : (now : ℕ) (js : List Job) → Each (Stands (rows w)) js → Each IsWork (map (canceled now) js)
-  each_work now [] each = tt
-  each_work now (j ∷ js) each = (one_work j.number j (canceled now j) each.0 (same_canceled now j j.phase).number (holds.canceled now j), each_work now js each.1)
+  -- the caller's own, and one that can be canceled
+  abbrev IsMine : Job → Type 0
+  IsMine j = Stands (rows w) j × (bytes_eq j.owner caller ≡ true)
 
-  named_work : (s : Scene) (now : ℕ) (numbers : List ℕ) → Each (Stands (rows w)) s.jobs → AreWork (cancel_my_jobs_row s now (Some numbers))
-  named_work s now numbers each = on_named AreWork s now numbers (each_work now s.jobs each) (λ code. tt)
+  abbrev IsAble : Job → Type 0
+  IsAble j = IsMine j × (is_cancelable j ≡ true)
+
+  each_work : (now : ℕ) (js : List Job) → Each IsAble js → Each IsWork (map (canceled now) js)
+  each_work now [] each = tt
+  each_work now (j ∷ js) each =
+      let here = each.0 in
+      (one_work j.number j (canceled now j) here.0.0 (same_canceled ByUser now j j.phase).number (holds.canceled ByUser now j (sym (ap (λ b. cond b ByUser ByOperator) here.0.1)) here.1), each_work now js each.1)
+
+  each_able : (js : List Job) → list_all is_cancelable js ≡ true → Each IsMine js → Each IsAble js
+  each_able [] all each = tt
+  each_able (j ∷ js) all each = let both = and_parts (is_cancelable j) (list_all is_cancelable js) all in ((each.0, both.0), each_able js both.1 each.1)
+
+  own_stand : (c : Job → Bool) → ((j : Job) → c j ≡ true → bytes_eq j.owner caller ≡ true) → Each IsMine (filter c (rows w))
+  own_stand c own = each_both (Stands (rows w)) (λ j. bytes_eq j.owner caller ≡ true) (filter c (rows w)) (all_stand w sound c) (each_map (λ j. c j ≡ true) (λ j. bytes_eq j.owner caller ≡ true) (filter c (rows w)) own (passed c (rows w)))
+
+  named_work : (s : Scene) (now : ℕ) (numbers : List ℕ) → Each IsMine s.jobs → AreWork (cancel_my_jobs_row s now (Some numbers))
+  named_work s now numbers each = on_named AreWork s now numbers (λ all. each_work now s.jobs (each_able s.jobs all each)) (λ code. tt)
 
   -- ---- each call
 
@@ -148,17 +170,21 @@ module _ (caller : List ℕ) (call : Call) (R : Job → Job → Type 0) (holds :
       own_work n (λ j. send_in s j format payload last) (λ j there number own. sent_work n s j there number format payload last)
   asked_work now (cancel_job n) is =
       let s : Scene = cut w now (ask caller (cancel_job n)) in
-      own_work n (λ j. cancel_row s now j) (λ j there number own. canceled_work n s j there number now)
+      seen_work n (λ j. cancel_row s now (cause caller j) j) (λ j there number. canceled_work n s j there number now)
   asked_work now (cancel_my_jobs None) is =
-      each_work now (filter is_cancelable (filter (λ j. bytes_eq j.owner caller && is_live j) (rows w))) (each-filter (Stands (rows w)) is_cancelable (filter (λ j. bytes_eq j.owner caller && is_live j) (rows w)) (all_stand w sound (λ j. bytes_eq j.owner caller && is_live j)))
-  asked_work now (cancel_my_jobs (Some numbers)) is = named_work (cut w now (ask caller (cancel_my_jobs (Some numbers)))) now numbers (all_stand w sound (λ j. bytes_eq j.owner caller && is_one_of numbers j))
+      let c : Job → Bool = λ j. bytes_eq j.owner caller && is_live j in
+      let own : (j : Job) → c j ≡ true → bytes_eq j.owner caller ≡ true = λ j is. (and_parts (bytes_eq j.owner caller) (is_live j) is).0 in
+      each_work now (filter is_cancelable (filter c (rows w)))
+      (each_both IsMine (λ j. is_cancelable j ≡ true) (filter is_cancelable (filter c (rows w))) (each-filter IsMine is_cancelable (filter c (rows w)) (own_stand c own)) (passed is_cancelable (filter c (rows w))))
+  asked_work now (cancel_my_jobs (Some numbers)) is = named_work (cut w now (ask caller (cancel_my_jobs (Some numbers)))) now numbers
+      (own_stand (λ j. bytes_eq j.owner caller && is_one_of numbers j) (λ j is. (and_parts (bytes_eq j.owner caller) (is_one_of numbers j) is).0))
   asked_work now (hold_job n) is =
       let s : Scene = cut w now (ask caller (hold_job n)) in
       own_work n (λ j. hold_in j.phase s j) (λ j there number own. held_work n s j there number)
   asked_work now (release_job n) is =
       let s : Scene = cut w now (ask caller (release_job n)) in
       own_work n (λ j. release_in j.phase s j) (λ j there number own. released_work n s j there number is own)
-  asked_work now (get_job_attributes n) is = own_work n (λ j. answered (Jobs (j ∷ []))) (λ j there number own. tt)
+  asked_work now (get_job_attributes n) is = seen_work n (λ j. answered (Jobs (j ∷ []))) (λ j there number. tt)
   asked_work now _ is = tt
 
 -- what holds of each change to a job, a request keeps

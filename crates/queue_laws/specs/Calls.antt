@@ -14,7 +14,7 @@ asks_new_job (cancel_my_jobs numbers) = false
 asks_new_job (hold_job n) = false
 asks_new_job (release_job n) = false
 asks_new_job (get_job_attributes n) = false
-asks_new_job (get_jobs which limit) = false
+asks_new_job (get_jobs which limit mine) = false
 asks_new_job get_printer_attributes = false
 
 -- a new job, under a number of its own
@@ -28,8 +28,22 @@ draws_number (cancel_my_jobs numbers) = false
 draws_number (hold_job n) = false
 draws_number (release_job n) = false
 draws_number (get_job_attributes n) = false
-draws_number (get_jobs which limit) = false
+draws_number (get_jobs which limit mine) = false
 draws_number get_printer_attributes = false
+
+-- an operation that an operator may ask of any job
+abbrev pub is_on_any : Call → Bool
+is_on_any (cancel_job n) = true
+is_on_any (get_job_attributes n) = true
+is_on_any (print_job new format payload) = false
+is_on_any (validate_job new) = false
+is_on_any (create_job new) = false
+is_on_any (send_document n format payload last) = false
+is_on_any (cancel_my_jobs numbers) = false
+is_on_any (hold_job n) = false
+is_on_any (release_job n) = false
+is_on_any (get_jobs which limit mine) = false
+is_on_any get_printer_attributes = false
 
 -- ---- requests
 

@@ -24,7 +24,7 @@ sent_by next n (cancel_my_jobs numbers) = []
 sent_by next n (hold_job m) = []
 sent_by next n (release_job m) = []
 sent_by next n (get_job_attributes m) = []
-sent_by next n (get_jobs which limit) = []
+sent_by next n (get_jobs which limit mine) = []
 sent_by next n get_printer_attributes = []
 
 abbrev pub sent_in : ℕ → ℕ → Event → List Document

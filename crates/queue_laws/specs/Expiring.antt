@@ -1,5 +1,5 @@
 -- Jobs that have expired.
-use Rattle.std.specs.Prelude.{ℕ, ◌+◌, ◌==◌, ◌&&◌, nat_le, nat_lt, List, Bool, false, Some, filter, if◌then◌else◌}
+use Rattle.std.specs.Prelude.{ℕ, ◌+◌, ◌==◌, ◌&&◌, nat_le, nat_lt, List, Bool, false, Some, None, filter, if◌then◌else◌}
 use Rattle.queue_types.specs.Job.{state}
 use Rattle.queue_core.specs.World.{World, Entry, rows}
 use Rattle.queue_types.specs.declared.job.Job.{Job}
@@ -19,7 +19,7 @@ overdue w now = filter (is_due w now) (rows w)
 
 -- aborted at that moment, and neither held nor open for documents any more
 abbrev pub aborted : ℕ → Job → Job
-aborted now j = record j { phase = Aborted; hold = false; incoming = false; stopping = false; ended = Some now }
+aborted now j = record j { phase = Aborted; hold = false; incoming = false; stopping = None; ended = Some now }
 
 -- the job with its documents: aborted if it is overdue, else as it was
 abbrev pub aborted_if_due : World → ℕ → Entry → Entry

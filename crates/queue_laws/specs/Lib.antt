@@ -7,6 +7,7 @@ pub mod Own
 pub mod Entering
 pub mod Reporting
 pub mod Granting
+pub mod Operating
 pub mod Alike
 pub mod Thin
 pub mod Before

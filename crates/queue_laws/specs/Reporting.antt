@@ -1,5 +1,5 @@
 -- What a device's report leaves.
-use Rattle.std.specs.Prelude.{◌≡◌, ℕ, List, Some, None, false, map, max}
+use Rattle.std.specs.Prelude.{◌≡◌, ℕ, List, Some, None, map, max}
 use Rattle.std.specs.FinMap.{get}
 use Rattle.queue_types.specs.Job.{job_state}
 use Rattle.queue_core.specs.Machine.{Step}
@@ -38,7 +38,7 @@ pub record IsLater (k : KeptReport) (r : Report) (j : Job) (w : World) : Type 0 
 
 -- ended in that phase at that moment, and asked to stop no more
 abbrev pub ended_by : Phase → ℕ → Job → Job
-ended_by p now j = record j { phase = p; stopping = false; ended = Some now }
+ended_by p now j = record j { phase = p; stopping = None; ended = Some now }
 
 -- by this step the job of the report becomes k, with the greater of the two counts, in that state, and the device is told
 -- its state and count

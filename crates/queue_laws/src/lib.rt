@@ -1,12 +1,14 @@
 //! Laws of the print queue in the words of those who use it. Each is a contract on a function that no program calls:
 //! it speaks of `step`, the answer to an event and the queue after it, or of a queue's jobs, accounts, grants and
-//! reports alone, and of nothing by which the step is made, but for a job's state, its estimate and the pages set aside for
-//! it, the pages granted to an account, set aside and printed in it, the number of a report's kind, and the order in
-//! [`own_jobs_are_shown`], which is the machine's; [`own_jobs_are_in_order`] says what that order is.
+//! reports alone, and of nothing by which the step is made, except a job's state, its estimate and the pages set aside for
+//! it, the pages granted to an account, set aside and printed in it, whether a caller is an operator, the number of a report's
+//! kind, and the order in [`own_jobs_are_shown`] and [`all_jobs_are_shown`], which is the machine's; [`own_jobs_are_in_order`]
+//! says what that order is.
 //!
 //! In the clauses `w`, `v` and `x` are queues, `now` is a moment, `u` the caller, `n` a job's number, `e` a job with its documents,
 //! `j` and `k` are jobs without them, `d` is a document, or a payload with its format, `r` a report, `b` a batch, `a` an account,
-//! `ps` are places of a run, and `f` and `g` free pages; in what account files do, `g` is a row, and `gs` and `hs` are lists of rows.
+//! `mine` is whether Get-Jobs is asked with `my-jobs`, `ps` are places of a run, and `f` and `g` free pages; in what account files
+//! do, `g` is a row, and `gs` and `hs` are lists of rows.
 //! Most words that they use are defined in `specs`, in a line or two: those of all laws in `Steps` (what an event leaves
 //! and what it is answered) and `Jobs` (states and owners). The others are those of `queue_core/specs`: a queue (`World`) and a
 //! sound one (`Sound`), runs (`Runs`), what is within the limits (`Limits`), rising numbers and the order of jobs that did
@@ -26,6 +28,7 @@ mod expiring;
 mod fetching;
 mod held;
 mod limits;
+mod operating;
 mod others;
 mod refusals;
 mod repeats;
@@ -56,6 +59,7 @@ pub use expiring::held_jobs_expire;
 pub use fetching::{documents_are_fetched, startable_jobs_are_shown};
 pub use held::jobs_are_held_until_released;
 pub use limits::hundred_own_jobs_are_most;
+pub use operating::{all_jobs_are_shown, operators_cancel};
 pub use others::{others_requests_are_alike, own_is_what_is_shown, run_two};
 pub use refusals::refusals_change_nothing;
 pub use repeats::{repeats_alone_are_left_out, run_thin, thin_runs_have_no_repeats};

@@ -1,5 +1,5 @@
 //! What each kind of report does (docs/device.md).
-ghost use Rattle.std.specs.Prelude.{ℕ, ◌≡◌, ◌≢◌, ◌⊎◌, Some, None, true, false};
+ghost use Rattle.std.specs.Prelude.{ℕ, ◌≡◌, ◌≢◌, ◌⊎◌, Some, None};
 ghost use Rattle.queue_types.specs.Event.{tell};
 ghost use Rattle.queue_types.specs.Job.{job_state, state};
 ghost use Rattle.queue_core.specs.Machine.{step};
@@ -12,7 +12,8 @@ ghost use Rattle.queue_types.specs.declared.event.ReportRefusal.TheVariants.{NoJ
 ghost use Rattle.queue_types.specs.declared.event.Reply.TheVariants.{Told, NotTold};
 ghost use Rattle.queue_types.specs.declared.job.Job.{Job};
 ghost use Rattle.queue_types.specs.declared.job.Phase.TheVariants.{Running, Stopped, Canceled, Aborted, Completed};
-ghost use Rattle.queue_types.specs.declared.job.Why.TheVariants.{ByUser, AtDevice};
+ghost use Rattle.queue_types.specs.declared.job.Why.{Why};
+ghost use Rattle.queue_types.specs.declared.job.Why.TheVariants.{AtDevice};
 ghost use Rattle.queue_types.specs.declared.states.JobState.TheVariants.{Processing, ProcessingStopped, Canceled as CanceledState, Aborted as AbortedState, Completed as CompletedState};
 ghost use Rattle.queue_laws.specs.Jobs.{Waits, IsAtDevice, HasEnded};
 ghost use Rattle.queue_laws.specs.Reporting.{Becomes, IsFirst, IsLater, ended_by};
@@ -22,9 +23,9 @@ ghost use Rattle.queue_laws.specs.Steps.{answer, unchanged};
 /// state 3: the job is processing, in state 5, and began at this moment. Stop, in state 5: it is stopped, in state 6.
 /// Resume, in state 6: it is processing again, in state 5. Count, once the job began: its state stays. Done, in state 5:
 /// it is completed at this moment, in state 9. Fail, in states 5 and 6: it is aborted at this moment, in state 8. Halt, in
-/// states 5 and 6: it is canceled at this moment, in state 7, by its user where it was asked to stop and else at the
-/// device. In each case its count is the greater of the two, nothing else of it changes, and the device is told its state
-/// and count. In states 5 and 6 a job has begun.
+/// states 5 and 6: it is canceled at this moment, in state 7, by whoever asked it to stop, its owner or an operator, and else
+/// at the device. In each case its count is the greater of the two, nothing else of it changes, and the device is told its
+/// state and count. In states 5 and 6 a job has begun.
 pub fn jobs_are_reported()
     ensures started { (w : World) (now : ℕ) (r : Report) (j : Job) → IsFirst Start r j w → state j ≡ 3 → Becomes r Processing (record j { phase = Running; begun = Some now }) (step w now (tell r)) }
     ensures stopped { (w : World) (now : ℕ) (r : Report) (j : Job) → IsFirst Stop r j w → state j ≡ 5 → Becomes r ProcessingStopped (record j { phase = Stopped }) (step w now (tell r)) }
@@ -32,8 +33,8 @@ pub fn jobs_are_reported()
     ensures counted { (w : World) (now : ℕ) (r : Report) (j : Job) → IsFirst Count r j w → j.begun ≢ None → Becomes r (job_state j) j (step w now (tell r)) }
     ensures done { (w : World) (now : ℕ) (r : Report) (j : Job) → IsFirst DoneReport r j w → state j ≡ 5 → Becomes r CompletedState (ended_by Completed now j) (step w now (tell r)) }
     ensures failed { (w : World) (now : ℕ) (r : Report) (j : Job) → IsFirst Fail r j w → IsAtDevice j → Becomes r AbortedState (ended_by Aborted now j) (step w now (tell r)) }
-    ensures halted_for_user { (w : World) (now : ℕ) (r : Report) (j : Job) → IsFirst Halt r j w → IsAtDevice j → j.stopping ≡ true → Becomes r CanceledState (ended_by (Canceled ByUser) now j) (step w now (tell r)) }
-    ensures halted_at_device { (w : World) (now : ℕ) (r : Report) (j : Job) → IsFirst Halt r j w → IsAtDevice j → j.stopping ≡ false → Becomes r CanceledState (ended_by (Canceled AtDevice) now j) (step w now (tell r)) }
+    ensures halted_for_asker { (w : World) (now : ℕ) (r : Report) (j : Job) (why : Why) → IsFirst Halt r j w → IsAtDevice j → j.stopping ≡ Some why → Becomes r CanceledState (ended_by (Canceled why) now j) (step w now (tell r)) }
+    ensures halted_at_device { (w : World) (now : ℕ) (r : Report) (j : Job) → IsFirst Halt r j w → IsAtDevice j → j.stopping ≡ None → Becomes r CanceledState (ended_by (Canceled AtDevice) now j) (step w now (tell r)) }
     ensures begun { (w : World) (n : ℕ) (j : Job) → IsSound w → job_at n (rows w) ≡ Some j → IsAtDevice j → j.begun ≢ None }
 {}
 

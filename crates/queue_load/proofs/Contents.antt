@@ -15,9 +15,9 @@ use Rattle.queue_rows.specs.Pieces.{pieces_in, pieces_of, piece_of, piece_at, cu
 use Rattle.queue_rows.specs.Rows.{rows_of, bytes_of, bytes_of_entry, document_rows, job_row, account_row, grant_row, report_row}
 use Rattle.queue_rows.specs.declared.rows.DocumentRow.{DocumentRow}
 use Rattle.queue_rows.specs.declared.rows.PieceRow.{PieceRow}
-use Rattle.queue_rows.specs.Versions.{Version, policy_rows}
+use Rattle.queue_rows.specs.Versions.{Version, operator_rows, policy_rows}
 use Rattle.queue_tables.specs.Content.{Content, numbered_content, piece_rows, pieces_from}
-use Rattle.queue_tables.specs.Values.{job_values, policy_values, document_values, piece_values, grant_values, report_values}
+use Rattle.queue_tables.specs.Values.{job_values, operator_values, policy_values, document_values, piece_values, grant_values, report_values}
 use Rattle.queue_load.specs.Content.{content_in, piece_rows_in}
 use Rattle.queue_load.specs.Tells.{account_row_values}
 
@@ -68,9 +68,12 @@ pieces_are (e ∷ es) =
 
 -- ---- the whole
 
--- with the rows of policy that the version has
+-- with the rows of policy and operators that the version has
 abbrev pub shown_content : Version → World → Content
-shown_content n w = record (numbered_content n w) { policy = map policy_values (unwrap_or (policy_rows n w.settings.keep) []) }
+shown_content n w = record (numbered_content n w) {
+  policy = map policy_values (unwrap_or (policy_rows n w.settings.keep) []);
+  operators = map operator_values (unwrap_or (operator_rows n w.settings.operators) []);
+}
 
 pub content_is : (n : Version) (w : World) → shown_content n w ≡ content_in (rows_of n w) (bytes_of w)
 content_is n w =
@@ -80,4 +83,4 @@ content_is n w =
     let accounts = sym (map-map account_row_values (account_row w) (entries w.free)) in
     let grants = sym (map-map grant_values grant_row (entries w.grants)) in
     let reports = sym (map-map report_values report_row (entries w.reports)) in
-    λ i. record { meta = (numbered_content n w).meta; jobs = jobs i; documents = documents i; pieces = pieces i; accounts = accounts i; grants = grants i; reports = reports i; policy = (shown_content n w).policy }
+    λ i. record { meta = (numbered_content n w).meta; jobs = jobs i; documents = documents i; pieces = pieces i; accounts = accounts i; grants = grants i; reports = reports i; policy = (shown_content n w).policy; operators = (shown_content n w).operators }

@@ -24,10 +24,10 @@ use Rattle.queue_rows.specs.Jobs.{IsJobRow, has_number}
 use Rattle.queue_rows.specs.Pieces.{piece_of, pieces_in, pieces_of}
 use Rattle.queue_rows.specs.Reports.{IsReportRow}
 use Rattle.queue_rows.specs.Rows.{document_rows, meta_row}
-use Rattle.queue_rows.specs.Versions.{Version, number_of, policy_row, first_version, second_version}
+use Rattle.queue_rows.specs.Versions.{Version, number_of, policy_row, first_version, second_version, third_version}
 use Rattle.queue_rows.specs.declared.rows.AccountRow.{AccountRow}
 use Rattle.queue_rows.specs.declared.rows.DocumentRow.{DocumentRow}
-use Rattle.queue_load.specs.Tells.{IsFormedAccount, IsFormedDocument, IsFormedGrant, IsFormedMeta, IsFormedPolicy, IsFormedPiece, IsFormedReport}
+use Rattle.queue_load.specs.Tells.{IsFormedAccount, IsFormedDocument, IsFormedGrant, IsFormedMeta, IsFormedOperator, IsFormedPolicy, IsFormedPiece, IsFormedReport}
 use Rattle.queue_load.proofs.Rising.{range_rises}
 
 -- ---- texts of ASCII
@@ -52,9 +52,13 @@ batch_low b h = grind (arith, nat_tests)
 small : (n : Version) → number_of n < 2 ^ 32
 small first_version = omega arith
 small second_version = omega arith
+small third_version = omega arith
 
 pub formed_policy : (w : World) → IsSound w → IsFormedPolicy (policy_row w.settings.keep)
 formed_policy w sound = record { one = omega arith; keep = omega (arith, sound.settings.keep_fits) }
+
+pub formed_operators : (w : World) → IsSound w → All IsFormedOperator w.settings.operators
+formed_operators w sound = λ k d low. (sound.settings.operators_fit.each k d low).owner.utf8
 
 pub formed_meta : (n : Version) (w : World) → IsSound w → IsFormedMeta (meta_row n w)
 formed_meta n w sound = record {

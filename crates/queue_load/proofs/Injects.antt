@@ -8,16 +8,15 @@ use Rattle.queue_types.specs.declared.event.GrantRow.{GrantRow}
 use Rattle.queue_types.specs.declared.event.KeptReport.{KeptReport}
 use Rattle.queue_types.specs.declared.event.Kind.{Kind}
 use Rattle.queue_types.specs.declared.job.Job.{Job}
-use Rattle.queue_types.specs.declared.job.Phase.{Phase}
 use Rattle.queue_types.specs.declared.states.JobState.{JobState}
-use Rattle.queue_rows.specs.Codes.{flag_number, job_state_number, kind_number, phase_number, why_number}
+use Rattle.queue_rows.specs.Codes.{flag_number, job_state_number, kind_number}
 use Rattle.queue_rows.specs.declared.rows.AccountRow.{AccountRow}
 use Rattle.queue_rows.specs.declared.rows.DocumentRow.{DocumentRow}
 use Rattle.queue_rows.specs.declared.rows.MetaRow.{MetaRow}
 use Rattle.queue_rows.specs.declared.rows.PolicyRow.{PolicyRow}
 use Rattle.queue_types.specs.Formats.{format_name}
-use Rattle.queue_tables.specs.Values.{document_values, grant_values, job_values, meta_values, policy_values, number, report_values}
-use Rattle.queue_tables.proofs.JobPut.{same_job}
+use Rattle.queue_tables.specs.Values.{document_values, grant_values, job_values, meta_values, operator_values, policy_values, number, report_values}
+use Rattle.queue_tables.proofs.JobPut.{TellCourses, same_job}
 use Rattle.queue_load.specs.Loaded.{IsBare, IsLong, Piece, whole_piece}
 use Rattle.queue_load.specs.Tells.{account_row_values}
 
@@ -73,9 +72,12 @@ same_policy a b e =
     let k = same_number a.keep b.keep (c 1) in
     λ x. record { one = o x; keep = k x }
 
-pub same_bare : ((p q : Phase) → phase_number p ≡ phase_number q → why_number p ≡ why_number q → p ≡ q) → ((x y : Bool) → flag_number x ≡ flag_number y → x ≡ y)
+pub same_operator : (a b : List ℕ) → operator_values a ≡ operator_values b → a ≡ b
+same_operator a b e = same_words a b (at _ _ e 0)
+
+pub same_bare : TellCourses → ((x y : Bool) → flag_number x ≡ flag_number y → x ≡ y)
     → (a b : Job) → IsBare a → IsBare b → job_values a ≡ job_values b → a ≡ b
-same_bare phases flags a b p q e = same_job phases flags a b e p.0 p.1 ∙ (λ x. record b { documents = sym q.0 x; octets = sym q.1 x })
+same_bare courses flags a b p q e = same_job courses flags a b e p.0 p.1 ∙ (λ x. record b { documents = sym q.0 x; octets = sym q.1 x })
 
 pub same_document : (a b : DocumentRow) → document_values a ≡ document_values b → a ≡ b
 same_document a b e =

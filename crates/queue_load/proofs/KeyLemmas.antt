@@ -7,7 +7,7 @@ use Rattle.std.proofs.Math.ListN.{get_or-map}
 use Rattle.std.proofs.lemmas.Bool.{cases_Bool}
 use Rattle.std.proofs.lemmas.List.{length-map}
 use Rattle.std.proofs.lemmas.List.Elements.{All-cons, All-map, All-tail}
-use Rattle.std.proofs.lemmas.List.Sorted.{All-permutation, length_permutation}
+use Rattle.std.proofs.lemmas.List.Sorted.{All-permutation, IsPermutation-refl, length_permutation}
 use Rattle.std.proofs.lemmas.Map.Lookups.{exact_signed}
 use Rattle.sqlite.specs.Order.{Row, column, value_cmp}
 use Rattle.sqlite.specs.Tree.{rowid, has_rowid}
@@ -19,7 +19,7 @@ use Rattle.sqlite_value.proofs.OrderLemmas.{then-Equal, value_cmp-Int}
 use Rattle.queue_rows.specs.Order.{AreInOrder}
 use Rattle.queue_tables.specs.Kept.{AreKeyed}
 use Rattle.queue_load.specs.Keyed.{id_before, id_values, id_view}
-use Rattle.queue_load.specs.Loaded.{IsTable, key_cmp}
+use Rattle.queue_load.specs.Loaded.{AreFormedRows, IsTable, key_cmp}
 use Rattle.queue_load.specs.declared.typed.RowId.{RowId}
 use Rattle.queue_load.proofs.Unique.{less_of}
 
@@ -154,10 +154,17 @@ int_in (Int n) h = (n, refl)
 int_in _ h = absurd cc
 
 -- integers are the rowids
-pub ids_are : (rs : List Row) → All (λ r. is_int (rowid r) ≡ true) rs → (xs : List RowId) × (map id_values xs ≡ map id_view rs)
+ids_are : (rs : List Row) → All (λ r. is_int (rowid r) ≡ true) rs → (xs : List RowId) × (map id_values xs ≡ map id_view rs)
 ids_are [] ints = ([], refl)
 ids_are (r ∷ rs) ints =
     let one = int_in (rowid r) (ints 0 r (omega arith)) in
     let more = ids_are rs (All-tail (λ r. is_int (rowid r) ≡ true) r rs ints) in
     let x : RowId = record { id = one.0 } in
     (x ∷ more.0, λ i. (sym one.1 i ∷ []) ∷ more.1 i)
+
+-- so rows that are told apart show rowids
+abbrev pub any_id : RowId → Type 0
+any_id x = Unit {0}
+
+pub ids_formed : (rs : List Row) → AreKeyed rs → AreFormedRows any_id id_values id_view rs
+ids_formed rs keyed = let ids = ids_are rs keyed.ints in record { items = ids.0; formed = λ k d low. tt; are = subst (IsPermutation (map id_values ids.0)) ids.1 (IsPermutation-refl (map id_values ids.0)) }

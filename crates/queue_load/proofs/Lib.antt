@@ -1,9 +1,11 @@
 pub mod Loading
 pub mod RowByRow
+pub mod Versions
 pub mod Texts
 pub mod Listing
 pub mod Telling
 pub mod Whole
+pub mod Newer
 pub mod Pieces
 pub mod Contents
 pub mod KeyLemmas

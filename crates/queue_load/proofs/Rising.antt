@@ -14,6 +14,7 @@ use Rattle.queue_core.specs.World.{Entry, text_cmp}
 use Rattle.queue_types.specs.declared.document.Document.{Document}
 use Rattle.queue_types.specs.declared.event.GrantRow.{GrantRow}
 use Rattle.queue_types.specs.declared.event.KeptReport.{KeptReport}
+use Rattle.queue_types.specs.Operators.{AreRising, is_before}
 use Rattle.queue_rows.specs.Accounts.{account_before}
 use Rattle.queue_rows.specs.Documents.{documents_from}
 use Rattle.queue_rows.specs.Grants.{grant_before}
@@ -24,7 +25,7 @@ use Rattle.queue_rows.specs.Rows.{document_rows, job_row}
 use Rattle.queue_rows.specs.declared.rows.AccountRow.{AccountRow}
 use Rattle.queue_rows.specs.declared.rows.DocumentRow.{DocumentRow}
 use Rattle.queue_rows.specs.declared.rows.PieceRow.{PieceRow}
-use Rattle.queue_tables.specs.Values.{document_values, grant_values, job_values, number, report_values}
+use Rattle.queue_tables.specs.Values.{document_values, grant_values, job_values, number, operator_values, report_values}
 use Rattle.queue_load.specs.Loaded.{Piece, whole_piece}
 use Rattle.queue_load.specs.Tells.{account_row_values}
 use Rattle.queue_load.proofs.Unique.{Before, all_pairs, ascending_of, flat_up, key_total, less_of}
@@ -127,13 +128,19 @@ pieces_rise es up = flat_up pieces_of DocumentBefore PieceBefore (λ d f low.
     later d f x y (inl low) p s = inl (omega (arith, low, p.0, s.0))
     later d f x y (inr low) p s = inr (p.0 ∙ low.0 ∙ sym s.0, inl (omega (arith, low.1, p.1, s.1)))
 
--- ---- accounts, grants and reports
+-- ---- accounts, operators, grants and reports
 
 account_less : (a b : AccountRow) → account_before a b ≡ true → Before account_row_values 1 a b
 account_less a b h = ap (λ (o : Ordering). ordering_then o Equal) (value_cmp-Text a.name b.name ∙ less_of _ h)
 
 pub accounts_rise : (acs : List AccountRow) → AreInOrder account_before acs → IsAscending (Before account_row_values 1) acs
 accounts_rise acs h = ascending_of _ (on_total account_row_values (key_total 1)) account_before account_less acs h
+
+operator_less : (a b : List ℕ) → is_before a b ≡ true → Before operator_values 1 a b
+operator_less a b h = ap (λ (o : Ordering). ordering_then o Equal) (value_cmp-Text a b ∙ less_of _ h)
+
+pub operators_rise : (names : List (List ℕ)) → AreRising names → IsAscending (Before operator_values 1) names
+operators_rise names h = ascending_of _ (on_total operator_values (key_total 1)) is_before operator_less names h
 
 grant_less : (a b : GrantRow) → grant_before a b ≡ true → Before grant_values 2 a b
 grant_less a b h =

@@ -1,5 +1,5 @@
 -- What reads of whole tables tell, one after another.
-use Rattle.std.proofs.Common.{◌≡◌, Result, Ok, Err, IfOk, IfErr, IsErrAnd, OnOk, ap, sym, subst, ◌∙◌}
+use Rattle.std.proofs.Common.{◌≡◌, Result, Ok, Err, IfOk, IfErr, IsErrAnd, IsTrue, OnOk, ap, sym, subst, ◌∙◌}
 use Rattle.std.proofs.lemmas.Result.{IfErr-weaker, IfOk-weaker}
 use Rattle.sqlite.specs.Effect.{Database}
 use Rattle.sqlite.specs.State.{State, HasCleanDisk, IsUnchanged}
@@ -11,6 +11,7 @@ use Rattle.queue_tables.specs.declared.fault.Fault.{Fault}
 use Rattle.queue_tables.specs.declared.fault.Fault.TheVariants.{Damaged}
 use Rattle.queue_tables.proofs.Ending.{on_ok}
 use Rattle.queue_tables.proofs.Leaving.{leaves_all, leaves_then}
+use Rattle.queue_tables.proofs.Reading.{unchanged_open}
 use Rattle.queue_load.specs.Reads.{HasBook, ReadsTable}
 
 -- what rows that were read, or a formless one of them, say of a table
@@ -28,6 +29,10 @@ reads_by r leaves same known read bad ok err = record {
 pub reads_none : {T : Type 0} {s : State} {IsRead : Database → T → Type 0} {HaveForm : Database → Type 0} (r : Result T Fault) (e : Fault) → IsErrAnd r (λ f. f ≡ e) → (e ≡ Damaged → ¬ HaveForm s.now) → ReadsTable s s r IsRead HaveForm
 reads_none (Ok x) e same bad = absurd same
 reads_none (Err f) e same bad = record { leaves = leaves_all _; same = λ clean. tt; read = λ fits clean. tt; damaged = λ fits clean d. bad (sym same ∙ d) }
+
+-- it isn't there
+pub reads_without : {T : Type 0} (s : State) (x : T) {IsRead : Database → T → Type 0} {HaveForm : Database → Type 0} → (HasCleanDisk s → IsTrue s.is_open) → ((n : Version) → s.now.schema ≡ schema_of n → IsRead s.now x) → ReadsTable s s (Ok x) IsRead HaveForm
+reads_without s x live read = record { leaves = leaves_all s; same = λ clean. unchanged_open s (live clean); read = λ fits clean. let it = fits clean in read it.0 it.1; damaged = λ fits clean. tt }
 
 -- what an Ok makes of what was read
 pub tells : {T U : Type 0} {old new : State} {x : T} {y : U} {IsRead : Database → T → Type 0} {IsTold : Database → U → Type 0} {Formed HaveForm : Database → Type 0}

@@ -1,8 +1,12 @@
 -- What the texts that read whole tables mean.
-use Rattle.std.proofs.Common.{◌≡◌, ℕ, List, [], ◌∷◌, map, take, length, codes, false, refl}
+use Rattle.std.proofs.Common.{◌≡◌, inl, inr, ℕ, pos, List, [], ◌∷◌, map, take, length, codes, false, refl, sym, subst, slice_set as set}
 use Rattle.sqlite.specs.Order.{Row}
-use Rattle.sqlite.specs.Term.{Term, col, eval_all}
+use Rattle.sqlite.specs.Term.{Term, col, eval_all, lit, op2}
+use Rattle.sqlite_sql.specs.declared.ops.BinaryOp.TheVariants.{And, Arith, Compare}
+use Rattle.sqlite_sql.specs.declared.ops.ArithOp.TheVariants.{Add}
+use Rattle.sqlite_sql.specs.declared.ops.CompareOp.TheVariants.{Eq}
 use Rattle.sqlite.specs.Collation.TheVariants.{Binary}
+use Rattle.sqlite.specs.declared.types.Value.TheVariants.{Int}
 use Rattle.sqlite_value.specs.Keys.{ascending as plain_key}
 use Rattle.sqlite_value.specs.declared.keys.Key.{Key}
 use Rattle.sqlite_resolve.specs.Compile.{first}
@@ -13,11 +17,12 @@ use Rattle.sqlite.specs.Program.{overlay}
 use Rattle.sqlite.specs.Schema.{Schema}
 use Rattle.sqlite.specs.Tree.{Trees}
 use Rattle.sqlite.proofs.Callers.{IsPlain, command_of}
-use Rattle.queue_rows.specs.Versions.{Version, first_version, second_version}
+use Rattle.queue_rows.specs.Versions.{Version, first_version, second_version, third_version}
 use Rattle.queue_tables.specs.Queries.{IsQueryText}
-use Rattle.queue_tables.specs.Tables.{book_schema, schema_of}
+use Rattle.queue_tables.specs.Tables.{schema_of}
+use Rattle.queue_load.specs.Store.{IsWithOperators, IsWithPolicy}
 use Rattle.queue_tables.proofs.PlainQueries.{shown_of}
-use Rattle.queue_tables.proofs.Statements.{Selection, query_of, job_names, job_terms, with_job_columns}
+use Rattle.queue_tables.proofs.Statements.{Selection, query_of, job_names, job_terms}
 
 -- a SELECT of these columns of all rows of a table, in the order of the first of them, its keys
 pub record WholeQuery : Type 0 where
@@ -69,15 +74,16 @@ pub meta_reads : (n : Version) → IsReading (schema_of n) meta_query
 unfolding understood first everything
 meta_reads first_version = record { command = refl; plain = (refl, refl); unlisted = refl }
 meta_reads second_version = record { command = refl; plain = (refl, refl); unlisted = refl }
+meta_reads third_version = record { command = refl; plain = (refl, refl); unlisted = refl }
 
 -- ---- jobs
 
 abbrev pub jobs_query : WholeQuery
 jobs_query = record {
-  sql = with_job_columns (codes "SELECT ") (codes " FROM jobs ORDER BY number");
-  names = job_names;
+  sql = codes "SELECT number, owner, name, copies, impressions, hold, incoming, phase, why + (why = 0 AND stopping = 1), stopping, count, created, begun, ended FROM jobs ORDER BY number";
+  names = set job_names 8 (codes "why + (why = 0 AND stopping = 1)");
   tree = 1;
-  terms = job_terms;
+  terms = set job_terms 8 (op2 (Arith Add) (col 1 9) (op2 And (op2 (Compare Eq Binary) (col 1 9) (lit (Int (pos 0)))) (op2 (Compare Eq Binary) (col 1 10) (lit (Int (pos 1))))));
   order = by (col 1 0) ∷ [];
   keys = 1;
   width = 14;
@@ -91,6 +97,7 @@ pub jobs_reads : (n : Version) → IsReading (schema_of n) jobs_query
 unfolding understood first everything
 jobs_reads first_version = record { command = refl; plain = (refl, refl); unlisted = refl }
 jobs_reads second_version = record { command = refl; plain = (refl, refl); unlisted = refl }
+jobs_reads third_version = record { command = refl; plain = (refl, refl); unlisted = refl }
 
 -- ---- documents
 
@@ -113,6 +120,7 @@ pub documents_reads : (n : Version) → IsReading (schema_of n) documents_query
 unfolding understood first everything
 documents_reads first_version = record { command = refl; plain = (refl, refl); unlisted = refl }
 documents_reads second_version = record { command = refl; plain = (refl, refl); unlisted = refl }
+documents_reads third_version = record { command = refl; plain = (refl, refl); unlisted = refl }
 
 -- ---- pieces
 
@@ -135,6 +143,7 @@ pub pieces_reads : (n : Version) → IsReading (schema_of n) pieces_query
 unfolding understood first everything
 pieces_reads first_version = record { command = refl; plain = (refl, refl); unlisted = refl }
 pieces_reads second_version = record { command = refl; plain = (refl, refl); unlisted = refl }
+pieces_reads third_version = record { command = refl; plain = (refl, refl); unlisted = refl }
 
 -- ---- accounts
 
@@ -157,6 +166,7 @@ pub accounts_reads : (n : Version) → IsReading (schema_of n) accounts_query
 unfolding understood first everything
 accounts_reads first_version = record { command = refl; plain = (refl, refl); unlisted = refl }
 accounts_reads second_version = record { command = refl; plain = (refl, refl); unlisted = refl }
+accounts_reads third_version = record { command = refl; plain = (refl, refl); unlisted = refl }
 
 -- ---- grants
 
@@ -179,6 +189,7 @@ pub grants_reads : (n : Version) → IsReading (schema_of n) grants_query
 unfolding understood first everything
 grants_reads first_version = record { command = refl; plain = (refl, refl); unlisted = refl }
 grants_reads second_version = record { command = refl; plain = (refl, refl); unlisted = refl }
+grants_reads third_version = record { command = refl; plain = (refl, refl); unlisted = refl }
 
 -- ---- reports
 
@@ -201,6 +212,7 @@ pub reports_reads : (n : Version) → IsReading (schema_of n) reports_query
 unfolding understood first everything
 reports_reads first_version = record { command = refl; plain = (refl, refl); unlisted = refl }
 reports_reads second_version = record { command = refl; plain = (refl, refl); unlisted = refl }
+reports_reads third_version = record { command = refl; plain = (refl, refl); unlisted = refl }
 
 -- ---- policy, which the first version lacks
 
@@ -219,11 +231,43 @@ pub policy_is : IsWhole policy_query
 unfolding first everything
 policy_is = record { query = refl; plainly = λ db. refl; leads = λ r. refl; wide = λ r. refl }
 
-pub policy_reads : IsReading book_schema policy_query
+policy_of_second : IsReading (schema_of second_version) policy_query
 unfolding understood first everything
-policy_reads = record { command = refl; plain = (refl, refl); unlisted = refl }
+policy_of_second = record { command = refl; plain = (refl, refl); unlisted = refl }
 
--- ---- rowids
+policy_of_third : IsReading (schema_of third_version) policy_query
+unfolding understood first everything
+policy_of_third = record { command = refl; plain = (refl, refl); unlisted = refl }
+
+pub policy_reads : (s : Schema) → IsWithPolicy s → IsReading s policy_query
+policy_reads s (inl is) = subst (λ (t : Schema). IsReading t policy_query) (sym is) policy_of_second
+policy_reads s (inr is) = subst (λ (t : Schema). IsReading t policy_query) (sym is) policy_of_third
+
+-- ---- operators, which the first two lack
+
+abbrev pub operators_query : WholeQuery
+operators_query = record {
+  sql = codes "SELECT name FROM operators ORDER BY name";
+  names = codes "name" ∷ [];
+  tree = 17;
+  terms = col 1 1 ∷ [];
+  order = by (col 1 1) ∷ [];
+  keys = 1;
+  width = 1;
+}
+
+pub operators_is : IsWhole operators_query
+unfolding first everything
+operators_is = record { query = refl; plainly = λ db. refl; leads = λ r. refl; wide = λ r. refl }
+
+operators_of_third : IsReading (schema_of third_version) operators_query
+unfolding understood first everything
+operators_of_third = record { command = refl; plain = (refl, refl); unlisted = refl }
+
+pub operators_reads : (s : Schema) → IsWithOperators s → IsReading s operators_query
+operators_reads s is = subst (λ (t : Schema). IsReading t operators_query) (sym is) operators_of_third
+
+-- ---- rowids of the accounts and of the operators
 
 abbrev pub rowids_query : WholeQuery
 rowids_query = record {
@@ -244,3 +288,26 @@ pub rowids_reads : (n : Version) → IsReading (schema_of n) rowids_query
 unfolding understood first everything
 rowids_reads first_version = record { command = refl; plain = (refl, refl); unlisted = refl }
 rowids_reads second_version = record { command = refl; plain = (refl, refl); unlisted = refl }
+rowids_reads third_version = record { command = refl; plain = (refl, refl); unlisted = refl }
+
+abbrev pub operator_rowids_query : WholeQuery
+operator_rowids_query = record {
+  sql = codes "SELECT rowid FROM operators ORDER BY rowid";
+  names = codes "rowid" ∷ [];
+  tree = 17;
+  terms = col 1 0 ∷ [];
+  order = by (col 1 0) ∷ [];
+  keys = 1;
+  width = 1;
+}
+
+pub operator_rowids_is : IsWhole operator_rowids_query
+unfolding first everything
+operator_rowids_is = record { query = refl; plainly = λ db. refl; leads = λ r. refl; wide = λ r. refl }
+
+operator_rowids_of_third : IsReading (schema_of third_version) operator_rowids_query
+unfolding understood first everything
+operator_rowids_of_third = record { command = refl; plain = (refl, refl); unlisted = refl }
+
+pub operator_rowids_reads : (s : Schema) → IsWithOperators s → IsReading s operator_rowids_query
+operator_rowids_reads s is = subst (λ (t : Schema). IsReading t operator_rowids_query) (sym is) operator_rowids_of_third

@@ -4,9 +4,9 @@ use Rattle.sqlite.specs.Order.{Row}
 use Rattle.queue_core.specs.World.{World}
 use Rattle.queue_rows.specs.Rows.{Tables, rows_of, bytes_of}
 use Rattle.queue_rows.specs.declared.rows.PieceRow.{PieceRow}
-use Rattle.queue_rows.specs.Versions.{second_version}
+use Rattle.queue_rows.specs.Versions.{operators_in, third_version}
 use Rattle.queue_tables.specs.Content.{Content, content_of}
-use Rattle.queue_tables.specs.Values.{meta_values, policy_values, job_values, document_values, piece_values, grant_values, report_values}
+use Rattle.queue_tables.specs.Values.{meta_values, operator_values, policy_values, job_values, document_values, piece_values, grant_values, report_values}
 use Rattle.queue_load.specs.Tells.{account_row_values}
 
 -- each piece beside its bytes
@@ -25,8 +25,9 @@ content_in t bs = record {
   grants = map grant_values t.grants;
   reports = map report_values t.reports;
   policy = map policy_values (unwrap_or t.policy []);
+  operators = map operator_values (operators_in t.operators);
 }
 
 -- the tables of a world are its rows
 abbrev pub HaveRows : Type 0
-HaveRows = (w : World) → content_of w ≡ content_in (rows_of second_version w) (bytes_of w)
+HaveRows = (w : World) → content_of w ≡ content_in (rows_of third_version w) (bytes_of w)

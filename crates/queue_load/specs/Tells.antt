@@ -11,7 +11,7 @@ use Rattle.queue_rows.specs.declared.rows.MetaRow.{MetaRow}
 use Rattle.queue_rows.specs.declared.rows.PieceRow.{PieceRow}
 use Rattle.queue_rows.specs.declared.rows.PolicyRow.{PolicyRow}
 use Rattle.queue_tables.specs.Forms.{IsFormedJob}
-use Rattle.queue_tables.specs.Values.{meta_values, policy_values, job_values, document_values, piece_values, account_values, grant_values, report_values}
+use Rattle.queue_tables.specs.Values.{meta_values, operator_values, policy_values, job_values, document_values, piece_values, account_values, grant_values, report_values}
 
 -- ---- meta
 
@@ -40,6 +40,17 @@ pub record IsFormedPolicy (p : PolicyRow) : Type 0 where
 
 abbrev pub IsNoPolicy : Row → Type 0
 IsNoPolicy r = (p : PolicyRow) → IsFormedPolicy p → r ≢ policy_values p
+
+-- ---- operators
+
+abbrev pub TellsOperator : List ℕ → Row → Type 0
+TellsOperator name r = length r ≡ 1 → r ≡ operator_values name
+
+abbrev pub IsFormedOperator : List ℕ → Type 0
+IsFormedOperator name = IsUtf8 name
+
+abbrev pub IsNoOperator : Row → Type 0
+IsNoOperator r = (name : List ℕ) → IsFormedOperator name → r ≢ operator_values name
 
 -- ---- jobs
 

@@ -3,10 +3,10 @@ ghost use Rattle.std.specs.Prelude.{◌≡◌};
 ghost use Rattle.sqlite.specs.Effect.{Database};
 ghost use Rattle.queue_core.specs.World.{World};
 ghost use Rattle.queue_load.specs.Content.{HaveRows};
+ghost use Rattle.queue_load.specs.Keyed.{HasKeyedTables};
 ghost use Rattle.queue_load.specs.Queues.{HasQueue, IsQueueIn};
 ghost use Rattle.queue_load.specs.Store.{AreTables, IsLoadable};
 ghost use Rattle.queue_rows.specs.Rows.{bytes_of, rows_of, StandForSoundWorlds, Tables};
-ghost use Rattle.queue_tables.specs.Kept.{AreKeyed};
 
 use queue_rows::laws::{numbers_tell_names, sound_queues_have_sound_rows};
 
@@ -30,9 +30,9 @@ pub fn tables_give_their_queue()
     sound_queues_have_sound_rows();
 }
 
-/// Tables hold a sound queue where their rows stand for such ones, and the accounts have rowids of their own.
+/// Tables hold a sound queue where their rows stand for such ones, and the accounts and operators have rowids of their own.
 pub fn sound_rows_are_a_queue()
-    ensures { (t : Tables) (d : Database) → AreTables t d → AreKeyed (d.trees 6) → StandForSoundWorlds t → HasQueue t d }
+    ensures { (t : Tables) (d : Database) → AreTables t d → HasKeyedTables d → StandForSoundWorlds t → HasQueue t d }
 {}
 
 /// The rows of a sound queue are the typed rows of the tables that hold it, and two sound queues that the same tables hold have the

@@ -4,17 +4,18 @@ ghost use Rattle.sqlite.specs.Held.{state};
 ghost use Rattle.sqlite.specs.State.{HasCleanDisk};
 ghost use Rattle.queue_load.specs.Loaded.{AreFormedRows, ArePieces, IsBare, IsFormedWhole, IsTable, whole_piece};
 ghost use Rattle.queue_load.specs.Reads.{ReadsTable};
-ghost use Rattle.queue_load.specs.Store.{ArePolicyRows, HasPolicyForm, has_policy};
+ghost use Rattle.queue_load.specs.Store.{AreOperatorRows, ArePolicyRows, HasOperatorForm, HasPolicyForm, has_operators, has_policy};
 ghost use Rattle.queue_load.specs.Tells.{account_row_values, IsFormedMeta, IsFormedDocument, IsFormedAccount, IsFormedGrant, IsFormedReport};
 ghost use Rattle.queue_tables.specs.Forms.{IsFormedJob};
-ghost use Rattle.queue_tables.specs.Values.{meta_values, meta_view, job_values, job_view, document_values, document_view, piece_view, account_view, grant_values, grant_view, report_values, report_view};
+ghost use Rattle.queue_tables.specs.Values.{meta_values, meta_view, job_values, kept_job_view, document_values, document_view, piece_view, account_view, grant_values, grant_view, report_values, report_view};
 
 use crate::table::read_table;
 use queue_rows::rows::{AccountRow, DocumentRow, MetaRow, PieceRow, PolicyRow};
 use queue_tables::fault::Fault;
-use queue_tables::{POLICY, with_job_columns};
+use queue_tables::{OPERATORS, POLICY, with_kept_job_columns};
 use queue_types::event::{GrantRow, KeptReport};
 use queue_types::job::Job;
+use queue_types::text::Text;
 use sqlite::{Alter, Connection};
 use std::alloc::Global;
 
@@ -37,12 +38,12 @@ pub(crate) fn read_jobs<S: Alter>(
     alloc: Global,
     conn: &mut Connection<S>,
 ) -> Result<Vec<Job>, Fault>
-    ensures reads { ReadsTable (state S.Store conn.old) (state S.Store conn.new) result (λ db v. IsTable job_values job_view 1 v.items (db.trees 1) × All IsBare v.items) (λ db. AreFormedRows IsFormedJob job_values job_view (db.trees 1)) }
+    ensures reads { ReadsTable (state S.Store conn.old) (state S.Store conn.new) result (λ db v. IsTable job_values kept_job_view 1 v.items (db.trees 1) × All IsBare v.items) (λ db. AreFormedRows IsFormedJob job_values kept_job_view (db.trees 1)) }
 {
     read_table(
         alloc,
         conn,
-        with_job_columns!("SELECT ", " FROM jobs ORDER BY number"),
+        with_kept_job_columns!("SELECT ", " FROM jobs ORDER BY number"),
     )
 }
 
@@ -136,4 +137,25 @@ pub(crate) fn read_policy<S: Alter>(
     }
     let rows = read_table(alloc, conn, "SELECT one, keep FROM policy ORDER BY one")?;
     Ok(Some(rows))
+}
+
+/// There is the table that the first two versions lack.
+pub(crate) fn has_operators<S: Alter>(conn: &Connection<S>) -> bool
+    ensures { result ≡ has_operators (state S.Store conn.now).now.schema }
+{
+    conn.schema().table_named(OPERATORS).is_some()
+}
+
+/// The names in `operators`, where there is such a table, of a connection that is open. Damaged is told only where one of them is no name.
+pub(crate) fn read_operators<S: Alter>(
+    alloc: Global,
+    conn: &mut Connection<S>,
+) -> Result<Option<Vec<Text>>, Fault>
+    ensures reads { (HasCleanDisk (state S.Store conn.old) → IsTrue (state S.Store conn.old).is_open) → ReadsTable (state S.Store conn.old) (state S.Store conn.new) result (λ d p. AreOperatorRows (option_map (λ v. v.items) p) d) HasOperatorForm }
+{
+    if !has_operators(conn) {
+        return Ok(None);
+    }
+    let names = read_table(alloc, conn, "SELECT name FROM operators ORDER BY name")?;
+    Ok(Some(names))
 }

@@ -1,9 +1,10 @@
 //! The rows of the queue that the tables hold.
-ghost use Rattle.std.specs.Prelude.{◌≡◌, IfOk, IfErr, OnOk};
+ghost use Rattle.std.specs.Prelude.{◌≡◌, IfOk, IfErr, IsTrue, OnOk};
 ghost use Rattle.sqlite.specs.Held.{state};
 ghost use Rattle.sqlite.specs.State.{HasCleanDisk, IsUnchanged};
 ghost use Rattle.queue_core.specs.World.{World};
 ghost use Rattle.queue_rows.specs.Rows.{StandForNoSoundWorld, StandForSoundWorlds, tables_in};
+ghost use Rattle.queue_load.specs.Keyed.{HasKeyedOperators, HasKeyedTables};
 ghost use Rattle.queue_load.specs.Queues.{HasQueue, IsQueueIn};
 ghost use Rattle.queue_load.specs.Reads.{ReadsTable};
 ghost use Rattle.queue_load.specs.Store.{FitsIn};
@@ -11,7 +12,7 @@ ghost use Rattle.queue_tables.specs.Kept.{AreKeyed};
 ghost use Rattle.queue_tables.specs.Leaving.{LeavesTables};
 ghost use Rattle.queue_tables.specs.declared.fault.Fault.TheVariants.{Damaged};
 
-use crate::keyed::accounts_are_keyed;
+use crate::keyed::{accounts_are_keyed, operators_are_keyed};
 use crate::laws::{queues_are_loadable, sound_rows_are_a_queue, tables_give_their_queue};
 use crate::rows::load_rows;
 use queue_rows::rows::Rows;
@@ -31,14 +32,32 @@ fn check_accounts<S: Alter>(alloc: Global, conn: &mut Connection<S>) -> Result<(
     Ok(())
 }
 
-/// The rows are those of a sound queue, and the accounts have rowids of their own. Damaged is told only where it is not so.
+/// The operators have rowids of their own, over a connection that is open. Damaged is told only where they have not.
+fn check_operators<S: Alter>(alloc: Global, conn: &mut Connection<S>) -> Result<(), Fault>
+    ensures reads { (HasCleanDisk (state S.Store conn.old) → IsTrue (state S.Store conn.old).is_open) → ReadsTable (state S.Store conn.old) (state S.Store conn.new) result (λ db u. HasKeyedOperators db) HasKeyedOperators }
+{
+    if operators_are_keyed(alloc, conn)? {
+        return Ok(());
+    }
+    Err(Fault::Damaged)
+}
+
+/// The accounts and the operators have rowids of their own. Damaged is told only where they have not.
+fn check_keys<S: Alter>(alloc: Global, conn: &mut Connection<S>) -> Result<(), Fault>
+    ensures reads { ReadsTable (state S.Store conn.old) (state S.Store conn.new) result (λ db u. HasKeyedTables db) HasKeyedTables }
+{
+    check_accounts(alloc, conn)?;
+    check_operators(alloc, conn)
+}
+
+/// The rows are those of a sound queue, and the accounts and operators have rowids of their own. Damaged is told only where it is not so.
 fn check_rows<S: Alter>(alloc: Global, conn: &mut Connection<S>, rows: &Rows) -> Result<(), Fault>
-    ensures reads { ReadsTable (state S.Store conn.old) (state S.Store conn.new) result (λ db u. StandForSoundWorlds (tables_in rows.now) × AreKeyed (db.trees 6)) (λ db. (¬ StandForNoSoundWorld (tables_in rows.now)) × AreKeyed (db.trees 6)) }
+    ensures reads { ReadsTable (state S.Store conn.old) (state S.Store conn.new) result (λ db u. StandForSoundWorlds (tables_in rows.now) × HasKeyedTables db) (λ db. (¬ StandForNoSoundWorld (tables_in rows.now)) × HasKeyedTables db) }
 {
     if !are_sound_rows(alloc, rows)? {
         return Err(Fault::Damaged);
     }
-    check_accounts(alloc, conn)
+    check_keys(alloc, conn)
 }
 
 /// The rows of the sound queue that the tables hold. Damaged is told only where they hold none. The tables stay as they were, where the

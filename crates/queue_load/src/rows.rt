@@ -9,8 +9,8 @@ ghost use Rattle.queue_tables.specs.Leaving.{LeavesTables};
 ghost use Rattle.queue_tables.specs.declared.fault.Fault.TheVariants.{Damaged};
 
 use crate::load::{
-    read_accounts, read_documents, read_grants, read_jobs, read_meta, read_pieces, read_policy,
-    read_reports,
+    read_accounts, read_documents, read_grants, read_jobs, read_meta, read_operators, read_pieces,
+    read_policy, read_reports,
 };
 use queue_rows::rows::Rows;
 use queue_tables::FIRST_TABLES;
@@ -43,7 +43,7 @@ fn fill_jobs<S: Alter>(
     Ok(())
 }
 
-/// The accounts, the grants, the reports and for how long a held job is kept.
+/// The accounts, the grants, the reports, for how long a held job is kept, and the operators.
 fn fill_accounts<S: Alter>(
     alloc: Global,
     conn: &mut Connection<S>,
@@ -56,6 +56,7 @@ fn fill_accounts<S: Alter>(
     rows.grants = read_grants(alloc, conn)?;
     rows.reports = read_reports(alloc, conn)?;
     rows.policy = read_policy(alloc, conn)?;
+    rows.operators = read_operators(alloc, conn)?;
     Ok(())
 }
 

@@ -10,6 +10,7 @@ use queue_tables::fault::Fault;
 use queue_tables::read::{format, job_state, kind, read_job, text, value};
 use queue_types::event::{GrantRow, KeptReport, Report};
 use queue_types::job::Job;
+use queue_types::text::Text;
 use sqlite::Row;
 use sqlite::types::ValueRef;
 use std::alloc::Global;
@@ -76,6 +77,18 @@ impl TableRow for PolicyRow {
             one: value(row, 0)?,
             keep: value(row, 1)?,
         })
+    }
+}
+
+impl TableRow for Text {
+    ghost use Rattle.queue_load.specs.Tells.{TellsOperator, IsNoOperator};
+
+    ghost tells = { TellsOperator };
+
+    ghost is_formless = { IsNoOperator };
+
+    fn read(alloc: Global, row: &Row) -> Result<Text, Fault> {
+        text(alloc, row, 0)
     }
 }
 

@@ -20,7 +20,7 @@ use Rattle.queue_rows.specs.Meta.{IsSoundMeta}
 use Rattle.queue_rows.specs.Pieces.{piece_of, pieces_of, pieces_in, piece_at, cut_up, length_in}
 use Rattle.queue_rows.specs.Rows.{Tables, meta_row, job_row, document_rows, bytes_of_entry, account_row, grant_row, report_row, rows_of}
 use Rattle.queue_rows.specs.declared.rows.DocumentRow.{DocumentRow}
-use Rattle.queue_rows.specs.Versions.{FitsPolicy, IsOf, Version, keep_in, number_of, policy_rows, first_version, second_version}
+use Rattle.queue_rows.specs.Versions.{FitsPolicy, IsOf, IsOnePolicy, Version, keep_in, number_of, operator_rows, operators_in, policy_row, policy_rows, first_version, second_version, third_version}
 use Rattle.queue_rows.specs.declared.rows.MetaRow.{MetaRow}
 use Rattle.queue_rows.specs.declared.rows.PolicyRow.{PolicyRow}
 use Rattle.queue_rows.proofs.Filled.{octets_of, reserved_filled, printed_filled}
@@ -166,27 +166,36 @@ jobs_back (j ∷ js) ds all h =
     λ i. record j { documents = none i; octets = empty i } ∷ jobs_back js (drop (next_of j.number ds) ds) (drop (next_of j.number ds) all) h.1 i
 
 -- the version that these tables are of
-abbrev pub version_of : Option (List PolicyRow) → Version
-version_of None = first_version
-version_of (Some ps) = second_version
+abbrev pub version_of : Option (List PolicyRow) → Option (List (List ℕ)) → Version
+version_of None operators = first_version
+version_of (Some ps) None = second_version
+version_of (Some ps) (Some operators) = third_version
 
-policy_back : (n : ℕ) (policy : Option (List PolicyRow)) → FitsPolicy n policy → (number_of (version_of policy) ≡ n) × (policy_rows (version_of policy) (keep_in policy) ≡ policy)
-policy_back n None fits = (sym fits, refl)
-policy_back n (Some []) fits = absurd (let no = fits.1.1 in cc)
-policy_back n (Some (p ∷ ps)) fits =
-    let none : ps ≡ [] = let is = fits.1.1 in cc in
-    let first : p ≡ fits.1.0 = let is = fits.1.1 in cc in
-    let one : 1 ≡ p.one = sym (ap (λ (q : PolicyRow). q.one) first ∙ fits.1.2) in
-    (sym fits.0, λ i. Some (record p { one = one i } ∷ sym none i))
+one_back : (ps : List PolicyRow) → IsOnePolicy ps → policy_row (keep_in (Some ps)) ∷ [] ≡ ps
+one_back [] one = absurd (let no = one.1 in cc)
+one_back (p ∷ ps) one =
+    let none : ps ≡ [] = let is = one.1 in cc in
+    let first : p ≡ one.0 = let is = one.1 in cc in
+    let key : 1 ≡ p.one = sym (ap (λ (q : PolicyRow). q.one) first ∙ one.2) in
+    λ i. record p { one = key i } ∷ sym none i
 
-pub fits_back : (m : MetaRow) (t : Tables) (bs : List (List ℕ)) → IsOf (version_of t.policy) (world_from m t bs)
-fits_back m t bs = of t.policy
+policy_back : (n : ℕ) (policy : Option (List PolicyRow)) (operators : Option (List (List ℕ))) → FitsPolicy n policy operators
+    → (number_of (version_of policy operators) ≡ n) × (policy_rows (version_of policy operators) (keep_in policy) ≡ policy) × (operator_rows (version_of policy operators) (operators_in operators) ≡ operators)
+policy_back n None None fits = (sym fits, refl, refl)
+policy_back n None (Some operators) fits = absurd fits
+policy_back n (Some ps) None fits = (sym fits.0, ap Some (one_back ps fits.1), refl)
+policy_back n (Some ps) (Some operators) fits = (sym fits.0, ap Some (one_back ps fits.1), refl)
+
+pub fits_back : (m : MetaRow) (t : Tables) (bs : List (List ℕ)) (n : ℕ) → FitsPolicy n t.policy t.operators → IsOf (version_of t.policy t.operators) (world_from m t bs)
+fits_back m t bs n = of t.policy t.operators
   where
-    of : (policy : Option (List PolicyRow)) → IsOf (version_of policy) (world_from m (record t { policy = policy }) bs)
-    of None = refl
-    of (Some ps) = tt
+    of : (policy : Option (List PolicyRow)) (operators : Option (List (List ℕ))) → FitsPolicy n policy operators → IsOf (version_of policy operators) (world_from m (record t { policy = policy; operators = operators }) bs)
+    of None None fits = (refl, refl)
+    of None (Some operators) fits = absurd fits
+    of (Some ps) None fits = refl
+    of (Some ps) (Some operators) fits = tt
 
-pub rows_back : (m : MetaRow) (t : Tables) (bs : List (List ℕ)) → map length bs ≡ map length_in t.pieces → t.meta ≡ m ∷ [] → IsSoundMeta m t.policy → FitTogether t → rows_of (version_of t.policy) (world_from m t bs) ≡ t
+pub rows_back : (m : MetaRow) (t : Tables) (bs : List (List ℕ)) → map length bs ≡ map length_in t.pieces → t.meta ≡ m ∷ [] → IsSoundMeta m t.policy t.operators → FitTogether t → rows_of (version_of t.policy t.operators) (world_from m t bs) ≡ t
 rows_back m t bs lengths only meta f =
     let w = world_from m t bs in
     let has = has_rows m t bs lengths f in
@@ -197,13 +206,13 @@ rows_back m t bs lengths only meta f =
     let printed_is : printed a.name w ≡ a.printed = ap (printed_for a.name) has.jobs ∙ printed_filled a.name t.jobs t.documents ∙ sym s.1 in
     λ i. record a { reserved = reserved_is i; printed = printed_is i }) in
     let one : 1 ≡ m.one = sym meta.one in
-    let kept = policy_back m.schema t.policy meta.schema in
-    let schema : number_of (version_of t.policy) ≡ m.schema = kept.0 in
-    let row : meta_row (version_of t.policy) w ≡ m = λ i. record m { one = one i; schema = schema i } in
-    let head : meta_row (version_of t.policy) w ∷ [] ≡ t.meta = ap (λ (x : MetaRow). x ∷ []) row ∙ sym only in
+    let kept = policy_back m.schema t.policy t.operators meta.schema in
+    let schema : number_of (version_of t.policy t.operators) ≡ m.schema = kept.0 in
+    let row : meta_row (version_of t.policy t.operators) w ≡ m = λ i. record m { one = one i; schema = schema i } in
+    let head : meta_row (version_of t.policy t.operators) w ∷ [] ≡ t.meta = ap (λ (x : MetaRow). x ∷ []) row ∙ sym only in
     let jobs : map job_row w.jobs ≡ t.jobs = jobs_back t.jobs t.documents (documents_in t.documents bs) (recursion_from_All IsBare t.jobs f.no_documents) in
     let pieces : flat_map pieces_of (flat_map document_rows w.jobs) ≡ t.pieces = ap (flat_map pieces_of) has.documents ∙ sym f.pieces in
     let accounts : map (account_row w) (entries w.free) ≡ t.accounts = ap (map (account_row w)) has.free ∙ mapped_back free_entry (account_row w) t.accounts stored in
     let grants : map grant_row (entries w.grants) ≡ t.grants = ap (map grant_row) has.grants ∙ mapped_back grant_entry grant_row t.grants (each_holds (λ g. grant_row (grant_entry g) ≡ g) (λ g. refl) t.grants) in
     let reports : map report_row (entries w.reports) ≡ t.reports = ap (map report_row) has.reports ∙ mapped_back report_entry report_row t.reports (each_holds (λ r. report_row (report_entry r) ≡ r) (λ r. refl) t.reports) in
-    λ i. record { meta = head i; jobs = jobs i; documents = has.documents i; pieces = pieces i; accounts = accounts i; grants = grants i; reports = reports i; policy = kept.1 i }
+    λ i. record { meta = head i; jobs = jobs i; documents = has.documents i; pieces = pieces i; accounts = accounts i; grants = grants i; reports = reports i; policy = kept.1 i; operators = kept.2 i }

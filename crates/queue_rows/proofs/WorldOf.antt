@@ -11,7 +11,7 @@ use Rattle.queue_rows.specs.Accounts.{account_before, reserved_for, printed_for}
 use Rattle.queue_rows.specs.Documents.{next_of, AreGrouped}
 use Rattle.queue_rows.specs.Grants.{grant_before}
 use Rattle.queue_rows.specs.Meta.{settings_in}
-use Rattle.queue_rows.specs.Versions.{keep_in}
+use Rattle.queue_rows.specs.Versions.{keep_in, operators_in}
 use Rattle.queue_rows.specs.Order.{AreInOrder}
 use Rattle.queue_rows.specs.Pieces.{pieces_in, pieces_of}
 use Rattle.queue_rows.specs.Reports.{report_before}
@@ -43,7 +43,7 @@ report_entry k = ((k.report.job, k.report.seq), k)
 -- bs: the bytes of each piece
 abbrev pub world_from : MetaRow → Tables → List (List ℕ) → World
 world_from m t bs = record {
-  settings = settings_in (keep_in t.policy) m;
+  settings = settings_in (keep_in t.policy) (operators_in t.operators) m;
   jobs = entries_in t.jobs t.documents (documents_in t.documents bs);
   next = m.next_number;
   grants = from_sorted (map grant_entry t.grants);

@@ -21,7 +21,7 @@ use Rattle.queue_rows.specs.Reports.{report_before}
 use Rattle.queue_rows.specs.Rows.{meta_row, job_row, document_rows, account_row, grant_row, report_row, rows_of, bytes_of}
 use Rattle.queue_rows.specs.Sound.{AreSoundRows}
 use Rattle.queue_rows.specs.Meta.{settings_in}
-use Rattle.queue_rows.specs.Versions.{FitsPolicy, IsOf, Version, keep_in, number_of, policy_row, policy_rows, first_version, second_version}
+use Rattle.queue_rows.specs.Versions.{FitsPolicy, IsOf, Version, keep_in, number_of, operator_rows, operators_in, policy_row, policy_rows, first_version, second_version, third_version}
 use Rattle.queue_types.specs.Settings.{AreSettings}
 use Rattle.queue_rows.proofs.WorldFrom.{all_back, entries_back, lengths_entries}
 use Rattle.queue_rows.proofs.WorldHas.{mapped_back, each_holds}
@@ -74,30 +74,42 @@ printed_bare a es = sum_over_map (λ (j : Job). cond (bytes_eq j.owner a) j.coun
 
 -- the seconds for which jobs are kept
 pub keep_back : (n : Version) (w : World) → IsOf n w → keep_in (policy_rows n w.settings.keep) ≡ w.settings.keep
-keep_back first_version w fits = sym fits
+keep_back first_version w fits = sym fits.0
 keep_back second_version w fits = refl
+keep_back third_version w fits = refl
 
-policy_fits : (n : Version) (keep : ℕ) → FitsPolicy (number_of n) (policy_rows n keep)
-policy_fits first_version keep = refl
-policy_fits second_version keep = (refl, (policy_row keep, refl, refl))
+-- the operators
+pub operators_back : (n : Version) (w : World) → IsOf n w → operators_in (operator_rows n w.settings.operators) ≡ w.settings.operators
+operators_back first_version w fits = sym fits.1
+operators_back second_version w fits = sym fits
+operators_back third_version w fits = refl
 
-settings_sound : (n : Version) (w : World) → IsOf n w → AreSettings w.settings → AreSettings (settings_in (keep_in (policy_rows n w.settings.keep)) (meta_row n w))
-settings_sound n w fits sound = let keep = sym (keep_back n w fits) in subst (λ (k : ℕ). AreSettings (record w.settings { keep = k })) keep sound
+policy_fits : (n : Version) (keep : ℕ) (operators : List (List ℕ)) → FitsPolicy (number_of n) (policy_rows n keep) (operator_rows n operators)
+policy_fits first_version keep operators = refl
+policy_fits second_version keep operators = (refl, (policy_row keep, refl, refl))
+policy_fits third_version keep operators = (refl, (policy_row keep, refl, refl))
+
+settings_sound : (n : Version) (w : World) → IsOf n w → AreSettings w.settings → AreSettings (settings_in (keep_in (policy_rows n w.settings.keep)) (operators_in (operator_rows n w.settings.operators)) (meta_row n w))
+settings_sound n w fits sound =
+    let keep = sym (keep_back n w fits) in
+    let operators = sym (operators_back n w fits) in
+    subst (λ os. AreSettings (record w.settings { keep = keep_in (policy_rows n w.settings.keep); operators = os })) operators (subst (λ (k : ℕ). AreSettings (record w.settings { keep = k })) keep sound)
 
 pub world_back : (n : Version) (w : World) → IsOf n w → IsSound w → world_from (meta_row n w) (rows_of n w) (bytes_of w) ≡ w
 world_back n w fits sound =
     let keep = keep_back n w fits in
+    let operators = operators_back n w fits in
     let own = flat_map document_rows w.jobs in
     let back = entries_back w.jobs 1 w.next sound.numbers sound.entries in
     let jobs : entries_in (map job_row w.jobs) own (documents_in own (bytes_of w)) ≡ w.jobs = ap (entries_in (map job_row w.jobs) own) (all_back w.jobs) ∙ back.1 in
     let grants : from_sorted (map grant_entry (map grant_row (entries w.grants))) ≡ w.grants = same_map_of w.grants grant_entry (map grant_row (entries w.grants)) (grants_kept w) in
     let free : from_sorted (map free_entry (map (account_row w) (entries w.free))) ≡ w.free = same_map_of w.free free_entry (map (account_row w) (entries w.free)) (free_kept w) in
     let reports : from_sorted (map report_entry (map report_row (entries w.reports))) ≡ w.reports = same_map_of w.reports report_entry (map report_row (entries w.reports)) (reports_kept w sound) in
-    λ i. record { settings = record w.settings { keep = keep i }; jobs = jobs i; next = w.next; grants = grants i; free = free i; reports = reports i }
+    λ i. record { settings = record w.settings { keep = keep i; operators = operators i }; jobs = jobs i; next = w.next; grants = grants i; free = free i; reports = reports i }
 
 pub rows_are_sound : (n : Version) (w : World) → IsOf n w → IsSound w → AreSoundRows (rows_of n w)
 rows_are_sound n w fits sound =
-    rows_told_sound (meta_row n w) (rows_of n w) (bytes_of w) (lengths_entries w.jobs) refl (record { one = refl; schema = policy_fits n w.settings.keep; settings = settings_sound n w fits sound.settings }) (subst IsSound (sym (world_back n w fits sound)) sound) (record {
+    rows_told_sound (meta_row n w) (rows_of n w) (bytes_of w) (lengths_entries w.jobs) refl (record { one = refl; schema = policy_fits n w.settings.keep w.settings.operators; settings = settings_sound n w fits sound.settings }) (subst IsSound (sym (world_back n w fits sound)) sound) (record {
       no_documents = All-map IsBare job_row w.jobs (λ k d lt. (refl, refl));
       grouped = (entries_back w.jobs 1 w.next sound.numbers sound.entries).0;
       pieces = refl;

@@ -61,7 +61,7 @@ count_is w rs order is j g =
     ] in
     omega (arith, under, over)
 
-pub rows_told_sound : (m : MetaRow) (t : Tables) (bs : List (List ℕ)) → map length bs ≡ map length_in t.pieces → t.meta ≡ m ∷ [] → IsSoundMeta m t.policy → IsSound (world_from m t bs) → FitTogether t → AreSoundRows t
+pub rows_told_sound : (m : MetaRow) (t : Tables) (bs : List (List ℕ)) → map length bs ≡ map length_in t.pieces → t.meta ≡ m ∷ [] → IsSoundMeta m t.policy t.operators → IsSound (world_from m t bs) → FitTogether t → AreSoundRows t
 rows_told_sound m t bs lengths only meta h f =
     let w = world_from m t bs in
     let js = t.jobs in

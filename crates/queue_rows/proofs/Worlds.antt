@@ -27,8 +27,8 @@ world_for : (t : Tables) (bs : List (List ℕ)) → map length bs ≡ map length
 world_for t bs lengths h = record {
   world = world_from h.row t bs;
   sound = sound_world t bs lengths h;
-  version = version_of t.policy;
-  fits = fits_back h.row t bs;
+  version = version_of t.policy t.operators;
+  fits = fits_back h.row t bs h.row.schema h.meta.schema;
   rows = rows_back h.row t bs lengths h.only h.meta (fits t h);
   bytes = (has_rows h.row t bs lengths (fits t h)).pieces;
 }

@@ -9,7 +9,7 @@ use Rattle.queue_types.specs.declared.event.KeptReport.{KeptReport}
 use Rattle.queue_types.specs.declared.job.Job.{Job}
 use Rattle.queue_rows.specs.Documents.{documents_from}
 use Rattle.queue_rows.specs.Pieces.{pieces_of, cut_up, length_in}
-use Rattle.queue_rows.specs.Versions.{IsOf, Version, number_of, policy_rows}
+use Rattle.queue_rows.specs.Versions.{IsOf, Version, number_of, operator_rows, policy_rows}
 use Rattle.queue_rows.specs.declared.rows.AccountRow.{AccountRow}
 use Rattle.queue_rows.specs.declared.rows.DocumentRow.{DocumentRow}
 use Rattle.queue_rows.specs.declared.rows.MetaRow.{MetaRow}
@@ -28,6 +28,8 @@ pub record Tables : Type 0 where
   pub reports : List KeptReport
   -- none where there is no such table
   pub policy : Option (List PolicyRow)
+  -- the names in the order of their bytes; none where there is no such table
+  pub operators : Option (List (List ℕ))
 
 abbrev pub tables_in : Rows → Tables
 tables_in r = record {
@@ -39,6 +41,7 @@ tables_in r = record {
   grants = r.grants.items;
   reports = r.reports.items;
   policy = option_map (λ v. v.items) r.policy;
+  operators = option_map (λ v. v.items) r.operators;
 }
 
 -- ---- of a queue
@@ -82,6 +85,7 @@ rows_of n w = record {
   grants = map grant_row (entries w.grants);
   reports = map report_row (entries w.reports);
   policy = policy_rows n w.settings.keep;
+  operators = operator_rows n w.settings.operators;
 }
 
 abbrev pub bytes_of_entry : Entry → List (List ℕ)

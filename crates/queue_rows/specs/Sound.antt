@@ -62,5 +62,5 @@ pub record HaveSoundTables (t : Tables) (next : ℕ) : Type 0 where
 pub record AreSoundRows (t : Tables) : Type 0 where
   pub row : MetaRow
   pub only : t.meta ≡ row ∷ []
-  pub meta : IsSoundMeta row t.policy
+  pub meta : IsSoundMeta row t.policy t.operators
   pub tables : HaveSoundTables t row.next_number

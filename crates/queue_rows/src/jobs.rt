@@ -1,10 +1,11 @@
 //! The rows of jobs: each one's own limits, and the order of their numbers.
-ghost use Rattle.std.specs.Prelude.{◌≡◌, ◌↔◌, All, IsTrue, IsSome, IfSome, None, false};
+ghost use Rattle.std.specs.Prelude.{◌≡◌, ◌↔◌, All, IsTrue, IsSome, IfSome, None, Some, ◌≢◌, false};
 ghost use Rattle.queue_core.specs.Limits.{IsPositive, IsMoment, FitsPhase};
+ghost use Rattle.queue_types.specs.declared.job.Why.TheVariants.{AtDevice};
 ghost use Rattle.queue_rows.specs.Jobs.{IsJobRow, NumbersRise};
 
 use queue_core::{is_job_name, is_owner};
-use queue_types::job::{Job, Phase};
+use queue_types::job::{Job, Phase, Why};
 use queue_types::limits::{
     LAST_JOB_NUMBER, LAST_MOMENT, MOST_COPIES, MOST_IMPRESSIONS, MOST_PRINTED_PAGES,
 };
@@ -28,21 +29,35 @@ fn is_moment_if_some(moment: Option<u32>) -> bool
 }
 
 fn fits_waiting(job: &Job) -> bool
-    ensures { IsTrue result ↔ ((job.now.count ≡ 0) × (job.now.begun ≡ None) × (job.now.ended ≡ None) × (job.now.stopping ≡ false)) }
+    ensures { IsTrue result ↔ ((job.now.count ≡ 0) × (job.now.begun ≡ None) × (job.now.ended ≡ None) × (job.now.stopping ≡ None)) }
 {
-    job.count == 0 && job.begun.is_none() && job.ended.is_none() && !job.stopping
+    job.count == 0 && job.begun.is_none() && job.ended.is_none() && job.stopping.is_none()
+}
+
+/// A job that is stopping was not stopped at the device.
+fn may_be_stopping(stopping: Option<Why>) -> bool
+    ensures { IsTrue result ↔ (stopping ≢ Some AtDevice) }
+{
+    match stopping {
+        Some(Why::AtDevice) => false,
+        Some(Why::ByUser | Why::ByOperator) | None => true,
+    }
 }
 
 fn fits_at_device(job: &Job) -> bool
-    ensures { IsTrue result ↔ ((job.now.hold ≡ false) × (job.now.incoming ≡ false) × IsSome job.now.begun × (job.now.ended ≡ None)) }
+    ensures { IsTrue result ↔ ((job.now.hold ≡ false) × (job.now.incoming ≡ false) × IsSome job.now.begun × (job.now.ended ≡ None) × (job.now.stopping ≢ Some AtDevice)) }
 {
-    !job.hold && !job.incoming && job.begun.is_some() && job.ended.is_none()
+    !job.hold
+        && !job.incoming
+        && job.begun.is_some()
+        && job.ended.is_none()
+        && may_be_stopping(job.stopping)
 }
 
 fn fits_ended(job: &Job) -> bool
-    ensures { IsTrue result ↔ ((job.now.hold ≡ false) × (job.now.incoming ≡ false) × IsSome job.now.ended × (job.now.stopping ≡ false)) }
+    ensures { IsTrue result ↔ ((job.now.hold ≡ false) × (job.now.incoming ≡ false) × IsSome job.now.ended × (job.now.stopping ≡ None)) }
 {
-    !job.hold && !job.incoming && job.ended.is_some() && !job.stopping
+    !job.hold && !job.incoming && job.ended.is_some() && job.stopping.is_none()
 }
 
 fn fits_phase(job: &Job) -> bool

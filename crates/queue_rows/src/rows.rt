@@ -9,7 +9,10 @@ use queue_types::text::Text;
 use std::alloc::Global;
 
 /// The number of the schema of a new store's tables.
-pub const SCHEMA: u32 = 2;
+pub const SCHEMA: u32 = 3;
+
+/// The number of the schema without the table `operators`, whose stores are still read.
+pub const SECOND_SCHEMA: u32 = 2;
 
 /// The number of the schema without the table `policy`, whose stores are still read.
 pub const FIRST_SCHEMA: u32 = 1;
@@ -19,7 +22,8 @@ pub const FIRST_SCHEMA: u32 = 1;
 pub struct MetaRow {
     /// The key, always 1.
     pub one: u32,
-    /// The number of the schema, [`SCHEMA`], or [`FIRST_SCHEMA`] where there is no table `policy`.
+    /// The number of the schema, [`SCHEMA`], or [`SECOND_SCHEMA`] where there is no table `operators`, or [`FIRST_SCHEMA`] where there is no table
+    /// `policy` either.
     pub schema: u32,
     /// The printer's URI, as are the next three a value of its settings.
     pub uri: Text,
@@ -86,12 +90,14 @@ pub struct Rows {
     pub reports: Vec<KeptReport>,
     /// None where there is no such table.
     pub policy: Option<Vec<PolicyRow>>,
+    /// The names of the operators; None where there is no such table.
+    pub operators: Option<Vec<Text>>,
 }
 
 impl Rows {
     /// Tables without rows.
     pub fn new(alloc: Global) -> Self
-        ensures { tables_in result ≡ record { meta = []; jobs = []; documents = []; pieces = []; accounts = []; grants = []; reports = []; policy = None } }
+        ensures { tables_in result ≡ record { meta = []; jobs = []; documents = []; pieces = []; accounts = []; grants = []; reports = []; policy = None; operators = None } }
     {
         Rows {
             meta: Vec::new(alloc),
@@ -102,6 +108,7 @@ impl Rows {
             grants: Vec::new(alloc),
             reports: Vec::new(alloc),
             policy: None,
+            operators: None,
         }
     }
 }

@@ -141,7 +141,7 @@ fn keep_each_clause(alloc: Global, rows: &Rows) -> Result<bool, AllocError>
     let [meta] = rows.meta.as_slice() else {
         return Ok(false);
     };
-    if !is_sound_meta(alloc, meta, &rows.policy)? {
+    if !is_sound_meta(alloc, meta, &rows.policy, &rows.operators)? {
         return Ok(false);
     }
     have_sound_tables(alloc, rows, meta.next_number)

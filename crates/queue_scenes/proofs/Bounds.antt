@@ -1,5 +1,5 @@
 -- What is read of a sound queue is within its bounds.
-use Rattle.std.proofs.Common.{◌≡◌, All, Bool, filter, inl, inr, ℕ, ℤ, pos, ◌+ℤ◌, ◌+◌, Option, None, Some, option_map, IsSomeAnd, ◌<◌, ◌≤◌, ◌^◌, ◌==◌, List, [], ◌∷◌, IfSome, length, sym, subst, arith}
+use Rattle.std.proofs.Common.{◌≡◌, ◌||◌, ◌&&◌, bytes_eq, All, Bool, filter, inl, inr, ℕ, ℤ, pos, ◌+ℤ◌, ◌+◌, Option, None, Some, option_map, IsSomeAnd, ◌<◌, ◌≤◌, ◌^◌, ◌==◌, List, [], ◌∷◌, IfSome, length, sym, subst, arith}
 use Rattle.std.specs.FinMap.{get}
 use Rattle.std.specs.List.{AllByRecursion as Each}
 use Rattle.std.proofs.lemmas.Bool.{cases_Bool, eqb-true}
@@ -8,11 +8,14 @@ use Rattle.queue_types.specs.Settings.{AreSettings, SettingValues}
 use Rattle.queue_types.specs.Event.{Call, ask, get_printer_attributes, grant}
 use Rattle.queue_types.specs.declared.event.FreeRow.{FreeRow}
 use Rattle.queue_types.specs.declared.event.GrantRow.{GrantRow}
+use Rattle.queue_types.specs.declared.event.WhichJobs.{WhichJobs}
 use Rattle.queue_types.specs.declared.job.Job.{Job}
 use Rattle.queue_core.specs.Limits.{IsAmount, IsFair, IsGrant, IsKnown, IsSoundJob}
 use Rattle.queue_core.specs.Sound.{IsKept, IsSound, Rise, printed, reserved}
 use Rattle.queue_core.specs.World.{Entry, World, granted, has_expired, jobs_for, jobs_scene, known_grant, numbered, queue_counts, rows}
+use Rattle.queue_core.specs.Visible.{is_among, visible}
 use Rattle.queue_core.proofs.Fair.{fair_of}
+use Rattle.queue_core.proofs.Ordered.{few_visible}
 use Rattle.queue_tables.specs.Accounts.{pages_of}
 use Rattle.queue_tables.specs.declared.account_pages.AccountPages.{AccountPages}
 use Rattle.queue_tables.proofs.Formed.{sums_fit}
@@ -35,7 +38,7 @@ jobs_are_few w sound = omega (arith, length-map w.jobs (λ (e : Entry). e.row), 
 pub queued_fit : (w : World) → IsSound w → (queue_counts (rows w)).queued < 2 ^ 31
 queued_fit w sound = (fair_of w 0 (ask [] get_printer_attributes) sound).queued
 
-pub jobs_fit : (w : World) (caller : List ℕ) (call : Call) → IsSound w → length (jobs_for caller call (rows w)) < 2 ^ 31
+pub jobs_fit : (w : World) (caller : List ℕ) (call : Call) → IsSound w → length (jobs_for w.settings.operators caller call (rows w)) < 2 ^ 31
 jobs_fit w caller call sound = (fair_of w 0 (ask caller call) sound).few
 
 few_filtered : (p : Job → Bool) (js : List Job) → length (filter p js) ≤ length js
@@ -44,6 +47,11 @@ few_filtered p (j ∷ js) = elim (cases_Bool (p j)) [
   | inl passed ↦ rw passed (omega (arith, few_filtered p js))
   | inr failed ↦ rw failed (omega (arith, few_filtered p js))
 ]
+
+pub visible_fit : (all : Bool) (name : List ℕ) (which : WhichJobs) (limit : Option ℕ) (w : World) → IsSound w → length (visible all name which limit (rows w)) < 2 ^ 31
+visible_fit all name which limit w sound =
+    let p : Job → Bool = λ j. (all || bytes_eq j.owner name) && is_among which j in
+    omega (arith, few_visible limit which (filter p (rows w)), few_filtered p (rows w), jobs_are_few w sound)
 
 pub expired_fit : (w : World) (keep now : ℕ) → IsSound w → length (filter (has_expired keep now) (rows w)) < 2 ^ 31
 expired_fit w keep now sound = omega (arith, few_filtered (has_expired keep now) (rows w), jobs_are_few w sound)

@@ -39,7 +39,7 @@ use Rattle.queue_scenes.proofs.Lists.{each_sound, world_rising}
 use Rattle.queue_scenes.proofs.Numbers.{AreRising, rising_filter, less_value}
 use Rattle.queue_scenes.proofs.Ordered.{shows_first}
 use Rattle.queue_scenes.proofs.Shown.{visible_rows, within_most}
-use Rattle.queue_scenes.proofs.Statements.{descending, select_ended, select_ended_is}
+use Rattle.queue_scenes.proofs.Statements.{descending, select_all_ended, select_all_ended_is, select_ended, select_ended_is}
 use Rattle.queue_scenes.proofs.Tests.{where_text_is, where_above}
 
 -- ---- a job that ended has the moment of its end
@@ -68,10 +68,25 @@ ended_in Running j fits within = none_later j.ended fits.3
 ended_in Stopped j fits within = none_later j.ended fits.3
 ended_in _ j fits within = some_later j.ended fits.2 within
 
-abbrev has_ended : List ℕ → Job → Bool
-has_ended name j = bytes_eq j.owner name && not (is_live j)
+-- it ended, and is one of some
+abbrev has_ended : (Job → Bool) → Job → Bool
+has_ended p j = p j && not (is_live j)
 
-ended-row : (name : List ℕ) (j : Job) → IsSoundJob j → is_ended_row name (job_values j) ≡ has_ended name j
+abbrev is_of : List ℕ → Job → Bool
+is_of name j = bytes_eq j.owner name
+
+abbrev is_any : Job → Bool
+is_any j = true
+
+-- ended > 0
+unfoldable pub is_any_ended_row : Row → Bool
+is_any_ended_row v = is_true (binary (Compare Gt Binary) (column v 13) (Int (pos 0))) && true
+
+any_ended-row : (j : Job) → IsSoundJob j → is_any_ended_row (job_values j) ≡ has_ended is_any j
+unfolding is_any_ended_row
+any_ended-row j sound = rw (ended_in j.phase j sound.phase sound.ended, and-true _) refl
+
+ended-row : (name : List ℕ) (j : Job) → IsSoundJob j → is_ended_row name (job_values j) ≡ has_ended (is_of name) j
 unfolding is_ended_row
 ended-row name j sound = rw (where_text_is j.owner name, ended_in j.phase j sound.phase sound.ended, and-true _) refl
 
@@ -85,19 +100,24 @@ end_in Running j fits over = absurd cc
 end_in Stopped j fits over = absurd cc
 end_in _ j fits over = fits.2
 
-ended_kept : (name : List ℕ) (js : List Job) → Each IsSoundJob js → filter (is_ended_row name) (map job_values js) ≡ map job_values (filter (has_ended name) js)
-ended_kept name [] all = refl
-ended_kept name (j ∷ js) all = elim (cases_Bool (has_ended name j)) [
-  | inl passed ↦ rw (ended-row name j all.0 ∙ passed, passed, ended_kept name js all.1) refl
-  | inr failed ↦ rw (ended-row name j all.0 ∙ failed, failed, ended_kept name js all.1) refl
+-- a test of rows that finds those of sound jobs that ended and are of some
+Finds : (Row → Bool) → (Job → Bool) → Type 0
+Finds test p = (j : Job) → IsSoundJob j → test (job_values j) ≡ has_ended p j
+
+ended_kept : (test : Row → Bool) (p : Job → Bool) → Finds test p → (js : List Job) → Each IsSoundJob js → filter test (map job_values js) ≡ map job_values (filter (has_ended p) js)
+unfolding Finds
+ended_kept test p finds [] all = refl
+ended_kept test p finds (j ∷ js) all = elim (cases_Bool (has_ended p j)) [
+  | inl passed ↦ rw (finds j all.0 ∙ passed, passed, ended_kept test p finds js all.1) refl
+  | inr failed ↦ rw (finds j all.0 ∙ failed, failed, ended_kept test p finds js all.1) refl
 ]
 
-ends : (name : List ℕ) (js : List Job) → Each IsSoundJob js → Each HasEnd (filter (has_ended name) js)
+ends : (p : Job → Bool) (js : List Job) → Each IsSoundJob js → Each HasEnd (filter (has_ended p) js)
 unfolding HasEnd
-ends name [] all = tt
-ends name (j ∷ js) all = elim (cases_Bool (has_ended name j)) [
-  | inl passed ↦ rw passed (some_end j.ended (end_in j.phase j all.0.phase (and_parts (bytes_eq j.owner name) (not (is_live j)) passed).1), ends name js all.1)
-  | inr failed ↦ rw failed (ends name js all.1)
+ends p [] all = tt
+ends p (j ∷ js) all = elim (cases_Bool (has_ended p j)) [
+  | inl passed ↦ rw passed (some_end j.ended (end_in j.phase j all.0.phase (and_parts (p j) (not (is_live j)) passed).1), ends p js all.1)
+  | inr failed ↦ rw failed (ends p js all.1)
 ]
 
 -- ---- ORDER BY ended DESC, number DESC
@@ -185,29 +205,41 @@ by_end_permuted (j ∷ js) = IsPermutation-trans (j ∷ js) (j ∷ by_end js) (p
 
 -- ---- what the SELECTs show
 
-pub ended_of : List ℕ → World → List Job
-ended_of name w = filter (has_ended name) (rows w)
+pub ended_of : (Job → Bool) → World → List Job
+ended_of p w = filter (has_ended p) (rows w)
 
-ended_listed : (name : List ℕ) (w : World) → IsSound w → IsPermutation (filter (is_ended_row name) (map job_values (rows w))) (map job_values (by_end (ended_of name w)))
+ended_listed : (test : Row → Bool) (p : Job → Bool) → Finds test p → (w : World) → IsSound w → IsPermutation (filter test (map job_values (rows w))) (map job_values (by_end (ended_of p w)))
 unfolding ended_of
-ended_listed name w sound =
-    subst (λ (vs : List Row). IsPermutation vs (map job_values (by_end (ended_of name w)))) (sym (ended_kept name (rows w) (each_sound w.jobs sound.entries)))
-    (IsPermutation-map job_values (ended_of name w) (by_end (ended_of name w)) (by_end_permuted (ended_of name w)))
+ended_listed test p finds w sound =
+    subst (λ (vs : List Row). IsPermutation vs (map job_values (by_end (ended_of p w)))) (sym (ended_kept test p finds (rows w) (each_sound w.jobs sound.entries)))
+    (IsPermutation-map job_values (ended_of p w) (by_end (ended_of p w)) (by_end_permuted (ended_of p w)))
 
-ended_ascends : (name : List ℕ) (w : World) → IsSound w → IsAscending (λ u v. key_cmp 0 (descending ∷ descending ∷ []) (end_key u) (end_key v) ≡ Less) (map job_values (by_end (ended_of name w)))
+ended_ascends : (p : Job → Bool) (w : World) → IsSound w → IsAscending (λ u v. key_cmp 0 (descending ∷ descending ∷ []) (end_key u) (end_key v) ≡ Less) (map job_values (by_end (ended_of p w)))
 unfolding ended_of
-ended_ascends name w sound =
-    ascending-map (λ u v. key_cmp 0 (descending ∷ descending ∷ []) (end_key u) (end_key v) ≡ Less) job_values (by_end (ended_of name w))
-    (by_end_ascends (ended_of name w) (rising_filter (has_ended name) (rows w) (world_rising w sound)) (ends name (rows w) (each_sound w.jobs sound.entries)))
+ended_ascends p w sound =
+    ascending-map (λ u v. key_cmp 0 (descending ∷ descending ∷ []) (end_key u) (end_key v) ≡ Less) job_values (by_end (ended_of p w))
+    (by_end_ascends (ended_of p w) (rising_filter (has_ended p) (rows w) (world_rising w sound)) (ends p (rows w) (each_sound w.jobs sound.entries)))
 
-pub selects_ended : (name : List ℕ) (limit : Option ℕ) (most : ℕ) → most ≡ unwrap_or limit 2147483647 → (s : State) → Selects select_ended.text (Words name ∷ number most ∷ []) s (λ w. visible name Completed limit (rows w))
-unfolding is_ended_row ended_of
+pub selects_ended : (name : List ℕ) (limit : Option ℕ) (most : ℕ) → most ≡ unwrap_or limit 2147483647 → (s : State) → Selects select_ended.text (Words name ∷ number most ∷ []) s (λ w. visible false name Completed limit (rows w))
+unfolding is_ended_row ended_of Finds
 selects_ended name limit most is s = record {
-  rows = visible_rows name Completed limit;
+  rows = visible_rows false name Completed limit;
   shows = λ w sound has shown_rows h.
-      let shown = by_end (ended_of name w) in
+      let shown = by_end (ended_of (is_of name) w) in
       shows_first select_ended (Words name ∷ number most ∷ []) job_view (is_ended_row name) (λ (v : Row). v) end_key (λ r. refl) (λ r. refl) (λ r. refl)
       1 most select_ended_is refl s s (map job_values (rows w)) shown_rows (map job_values shown) has.schema has.rows.jobs
-      (ended_listed name w sound) (ended_ascends name w sound) h
-      ∙ ap (take most) (map-id (map job_values shown)) ∙ take-map job_values most shown ∙ ap (map job_values) (within_most name Completed limit most is w sound);
+      (ended_listed (is_ended_row name) (is_of name) (ended-row name) w sound) (ended_ascends (is_of name) w sound) h
+      ∙ ap (take most) (map-id (map job_values shown)) ∙ take-map job_values most shown ∙ ap (map job_values) (within_most false name Completed limit most is w sound);
+}
+
+pub selects_all_ended : (limit : Option ℕ) (most : ℕ) → most ≡ unwrap_or limit 2147483647 → (s : State) → Selects select_all_ended.text (number most ∷ []) s (λ w. visible true [] Completed limit (rows w))
+unfolding is_any_ended_row ended_of Finds
+selects_all_ended limit most is s = record {
+  rows = visible_rows true [] Completed limit;
+  shows = λ w sound has shown_rows h.
+      let shown = by_end (ended_of is_any w) in
+      shows_first select_all_ended (number most ∷ []) job_view is_any_ended_row (λ (v : Row). v) end_key (λ r. refl) (λ r. refl) (λ r. refl)
+      0 most select_all_ended_is refl s s (map job_values (rows w)) shown_rows (map job_values shown) has.schema has.rows.jobs
+      (ended_listed is_any_ended_row is_any any_ended-row w sound) (ended_ascends is_any w sound) h
+      ∙ ap (take most) (map-id (map job_values shown)) ∙ take-map job_values most shown ∙ ap (map job_values) (within_most true [] Completed limit most is w sound);
 }

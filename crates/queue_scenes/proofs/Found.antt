@@ -22,7 +22,7 @@ use Rattle.queue_core.specs.World.{World, grant_cmp, report_cmp, text_cmp}
 use Rattle.queue_types.specs.declared.event.KeptReport.{KeptReport}
 use Rattle.queue_rows.specs.Codes.{job_state_number, kind_number}
 use Rattle.queue_rows.specs.Rows.{meta_row, grant_row}
-use Rattle.queue_rows.specs.Versions.{second_version}
+use Rattle.queue_rows.specs.Versions.{third_version}
 use Rattle.queue_rows.proofs.WorldMaps.{found_there}
 use Rattle.queue_rows.proofs.WorldRows.{grant_same, report_same, report_total}
 use Rattle.queue_tables.specs.Content.{Holds, content_of}
@@ -42,7 +42,7 @@ pub next_shown : {old : State} {rows : List Row} (new : State) (w : World) → H
 next_shown {old} {rows} new w has h =
     let p = shows_all select_next select_next_is
     old new [] meta_view (is_numbered 1) (λ v. column v 6 ∷ []) (content_of w).meta rows has.schema (λ r. refl) (λ r. refl) has.rows.meta h in
-    let one : filter (is_numbered 1) (content_of w).meta ≡ meta_values (meta_row second_version w) ∷ [] = rw (numbered_meta (meta_row second_version w) refl) refl in
+    let one : filter (is_numbered 1) (content_of w).meta ≡ meta_values (meta_row third_version w) ∷ [] = rw (numbered_meta (meta_row third_version w) refl) refl in
     one_permutation (number w.next ∷ []) rows (subst (λ (vs : List Row). IsPermutation (map (λ (v : Row). column v 6 ∷ []) vs) rows) one p)
 
 -- ---- keys of two columns

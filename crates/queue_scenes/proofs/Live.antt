@@ -43,8 +43,8 @@ use Rattle.queue_scenes.proofs.Lookup.{rows_passing}
 use Rattle.queue_scenes.proofs.Numbers.{AreRising, rising_filter, less_value}
 use Rattle.queue_scenes.proofs.Ordered.{shows_first}
 use Rattle.queue_scenes.proofs.Shown.{visible_rows, within_most}
-use Rattle.queue_scenes.proofs.Statements.{select_live, select_live_is}
-use Rattle.queue_scenes.proofs.Tests.{either_by_number, flags_added, is_own_live_row, own_live-row}
+use Rattle.queue_scenes.proofs.Statements.{select_all_live, select_all_live_is, select_live, select_live_is}
+use Rattle.queue_scenes.proofs.Tests.{either_by_number, flags_added, is_live_row, is_own_live_row, live-row, own_live-row}
 
 -- ---- ORDER BY (phase = 0) + (hold + incoming > 0), number
 
@@ -90,12 +90,12 @@ ranked j sound live =
 pub HasRank : Job → Type 0
 HasRank j = (is_live j ≡ true) × (rank_value (job_values j) ≡ Int (pos (rank j)))
 
-have_ranks : (name : List ℕ) (js : List Job) → Each IsSoundJob js → Each HasRank (own_live name js)
+have_ranks : (p : Job → Bool) (js : List Job) → Each IsSoundJob js → Each HasRank (filter (λ j. p j && is_live j) js)
 unfolding HasRank
-have_ranks name [] all = tt
-have_ranks name (j ∷ js) all = elim (cases_Bool (bytes_eq j.owner name && is_live j)) [
-  | inl passed ↦ let live : is_live j ≡ true = (and_parts (bytes_eq j.owner name) (is_live j) passed).1 in rw passed ((live, ranked j all.0 live), have_ranks name js all.1)
-  | inr failed ↦ rw failed (have_ranks name js all.1)
+have_ranks p [] all = tt
+have_ranks p (j ∷ js) all = elim (cases_Bool (p j && is_live j)) [
+  | inl passed ↦ let live : is_live j ≡ true = (and_parts (p j) (is_live j) passed).1 in rw passed ((live, ranked j all.0 live), have_ranks p js all.1)
+  | inr failed ↦ rw failed (have_ranks p js all.1)
 ]
 
 -- ---- by_state is in that order
@@ -167,34 +167,53 @@ by_state_permuted (j ∷ js) all =
       ]
     ]
 
--- ---- what the SELECT shows
+-- ---- what the SELECTs show
 
-module _ (name : List ℕ) (w : World) (sound : IsSound w) where
-  abbrev mine : List Job
-  mine = own_live name (rows w)
+-- a test of rows that finds the live jobs of some
+module _ (p : Job → Bool) (test : Row → Bool) (same : (j : Job) → test (job_values j) ≡ (p j && is_live j)) (w : World) (sound : IsSound w) where
+  abbrev found : List Job
+  found = filter (λ j. p j && is_live j) (rows w)
 
-  have_rank : Each HasRank mine
-  have_rank = have_ranks name (rows w) (each_sound w.jobs sound.entries)
+  have_rank : Each HasRank found
+  have_rank = have_ranks p (rows w) (each_sound w.jobs sound.entries)
 
-  live_listed : IsPermutation (filter (is_own_live_row name) (map job_values (rows w))) (map job_values (by_state mine))
+  live_listed : IsPermutation (filter test (map job_values (rows w))) (map job_values (by_state found))
   live_listed =
-      subst (λ (vs : List Row). IsPermutation vs (map job_values (by_state mine))) (sym (rows_passing job_values (is_own_live_row name) (λ (j : Job). bytes_eq j.owner name && is_live j) (own_live-row name) (rows w)))
-      (IsPermutation-map job_values mine (by_state mine) (by_state_permuted mine have_rank))
+      subst (λ (vs : List Row). IsPermutation vs (map job_values (by_state found))) (sym (rows_passing job_values test (λ (j : Job). p j && is_live j) same (rows w)))
+      (IsPermutation-map job_values found (by_state found) (by_state_permuted found have_rank))
 
-  live_ascends : IsAscending (λ u v. key_cmp 0 (ascending Binary ∷ ascending Binary ∷ []) (rank_key u) (rank_key v) ≡ Less) (map job_values (by_state mine))
+  live_ascends : IsAscending (λ u v. key_cmp 0 (ascending Binary ∷ ascending Binary ∷ []) (rank_key u) (rank_key v) ≡ Less) (map job_values (by_state found))
   live_ascends =
-      ascending-map (λ u v. key_cmp 0 (ascending Binary ∷ ascending Binary ∷ []) (rank_key u) (rank_key v) ≡ Less) job_values (by_state mine)
-      (ascends (by_state mine) (each-visible HasRank None NotCompleted mine have_rank)
-      (by_rank mine (rises mine (rising_filter (λ (j : Job). bytes_eq j.owner name && is_live j) (rows w) (world_rising w sound)))))
+      ascending-map (λ u v. key_cmp 0 (ascending Binary ∷ ascending Binary ∷ []) (rank_key u) (rank_key v) ≡ Less) job_values (by_state found)
+      (ascends (by_state found) (each-visible HasRank None NotCompleted found have_rank)
+      (by_rank found (rises found (rising_filter (λ (j : Job). p j && is_live j) (rows w) (world_rising w sound)))))
 
-pub selects_live : (name : List ℕ) (limit : Option ℕ) (most : ℕ) → most ≡ unwrap_or limit 2147483647 → (s : State) → Selects select_live.text (Words name ∷ number most ∷ []) s (λ w. visible name NotCompleted limit (rows w))
+abbrev is_of : List ℕ → Job → Bool
+is_of name j = bytes_eq j.owner name
+
+pub selects_live : (name : List ℕ) (limit : Option ℕ) (most : ℕ) → most ≡ unwrap_or limit 2147483647 → (s : State) → Selects select_live.text (Words name ∷ number most ∷ []) s (λ w. visible false name NotCompleted limit (rows w))
 unfolding is_own_live_row
 selects_live name limit most is s = record {
-  rows = visible_rows name NotCompleted limit;
+  rows = visible_rows false name NotCompleted limit;
   shows = λ w sound has shown_rows h.
       let shown = by_state (own_live name (rows w)) in
       shows_first select_live (Words name ∷ number most ∷ []) job_view (is_own_live_row name) (λ (v : Row). v) rank_key (λ r. refl) (λ r. refl) (λ r. refl)
       1 most select_live_is refl s s (map job_values (rows w)) shown_rows (map job_values shown) has.schema has.rows.jobs
-      (live_listed name w sound) (live_ascends name w sound) h
-      ∙ ap (take most) (map-id (map job_values shown)) ∙ take-map job_values most shown ∙ ap (map job_values) (within_most name NotCompleted limit most is w sound);
+      (live_listed (is_of name) (is_own_live_row name) (own_live-row name) w sound) (live_ascends (is_of name) (is_own_live_row name) (own_live-row name) w sound) h
+      ∙ ap (take most) (map-id (map job_values shown)) ∙ take-map job_values most shown ∙ ap (map job_values) (within_most false name NotCompleted limit most is w sound);
+}
+
+abbrev is_any : Job → Bool
+is_any j = true
+
+pub selects_all_live : (limit : Option ℕ) (most : ℕ) → most ≡ unwrap_or limit 2147483647 → (s : State) → Selects select_all_live.text (number most ∷ []) s (λ w. visible true [] NotCompleted limit (rows w))
+unfolding is_live_row
+selects_all_live limit most is s = record {
+  rows = visible_rows true [] NotCompleted limit;
+  shows = λ w sound has shown_rows h.
+      let shown = by_state (filter is_live (rows w)) in
+      shows_first select_all_live (number most ∷ []) job_view is_live_row (λ (v : Row). v) rank_key (λ r. refl) (λ r. refl) (λ r. refl)
+      0 most select_all_live_is refl s s (map job_values (rows w)) shown_rows (map job_values shown) has.schema has.rows.jobs
+      (live_listed is_any is_live_row live-row w sound) (live_ascends is_any is_live_row live-row w sound) h
+      ∙ ap (take most) (map-id (map job_values shown)) ∙ take-map job_values most shown ∙ ap (map job_values) (within_most true [] NotCompleted limit most is w sound);
 }

@@ -111,6 +111,14 @@ pub select_live_is : IsLimited select_live 1
 unfolding understood first everything
 select_live_is = record { shows = record { command = refl; plain = (refl, refl); query = refl; unlisted = refl }; plainly = λ db. refl }
 
+-- of all callers
+abbrev pub select_all_live : Selection
+select_all_live = jobs_selected (codes " FROM jobs WHERE phase < 3 ORDER BY (phase = 0) + (hold + incoming > 0), number LIMIT ?1") (op2 (Compare Lt Binary) (col 1 8) (lit (Int (pos 3))) ∷ []) select_live.order
+
+pub select_all_live_is : IsLimited select_all_live 0
+unfolding understood first everything
+select_all_live_is = record { shows = record { command = refl; plain = (refl, refl); query = refl; unlisted = refl }; plainly = λ db. refl }
+
 -- ---- so many of an owner's jobs that ended
 
 abbrev pub select_ended : Selection
@@ -119,3 +127,11 @@ select_ended = jobs_selected (codes " FROM jobs WHERE owner = ?1 AND ended > 0 O
 pub select_ended_is : IsLimited select_ended 1
 unfolding understood first everything
 select_ended_is = record { shows = record { command = refl; plain = (refl, refl); query = refl; unlisted = refl }; plainly = λ db. refl }
+
+-- of all callers
+abbrev pub select_all_ended : Selection
+select_all_ended = jobs_selected (codes " FROM jobs WHERE ended > 0 ORDER BY ended DESC, number DESC LIMIT ?1") (op2 (Compare Gt Binary) (col 1 14) (lit (Int (pos 0))) ∷ []) select_ended.order
+
+pub select_all_ended_is : IsLimited select_all_ended 0
+unfolding understood first everything
+select_all_ended_is = record { shows = record { command = refl; plain = (refl, refl); query = refl; unlisted = refl }; plainly = λ db. refl }

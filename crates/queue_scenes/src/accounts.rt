@@ -4,13 +4,14 @@ ghost use Rattle.std.specs.FinMap.{get};
 ghost use Rattle.sqlite.specs.Held.{state};
 ghost use Rattle.sqlite.specs.State.{HasCleanDisk};
 ghost use Rattle.queue_core.specs.Limits.{IsAmount};
-ghost use Rattle.queue_core.specs.World.{found_row};
+ghost use Rattle.queue_core.specs.World.{found_row, owner_row};
 ghost use Rattle.queue_tables.specs.Telling.{ReadsQueue};
 ghost use Rattle.queue_scenes.specs.Accounts.{FitAccount};
 
 use queue_tables::account_pages::{AccountPages, find_account};
 use queue_tables::fault::Fault;
 use queue_types::event::FreeRow;
+use queue_types::job::Job;
 use queue_types::text::Text;
 use sqlite::{Alter, Connection};
 use std::alloc::Global;
@@ -48,4 +49,20 @@ pub(crate) fn free_rows<S: Alter>(
         rows.push(FreeRow { account, free })?;
     }
     Ok(rows)
+}
+
+/// The account of the first job's owner.
+pub(crate) fn owner_rows<S: Alter>(
+    alloc: Global,
+    conn: &mut Connection<S>,
+    jobs: &[Job],
+) -> Result<Vec<FreeRow>, Fault>
+    ensures reads { ReadsQueue (state S.Store conn.old) (state S.Store conn.new) result (λ w v. v.items ≡ owner_row w.free jobs.now) }
+    ensures live { HasCleanDisk (state S.Store conn.new) → IsTrue (state S.Store conn.old).is_open → OnOk result (IsTrue (state S.Store conn.new).is_open) }
+    ensures within { IfOk result (λ v. All (λ a. IsAmount a.free) v.items) }
+{
+    match jobs {
+        [] => Ok(Vec::new(alloc)),
+        [job, ..] => free_rows(alloc, conn, job.owner.as_str()),
+    }
 }

@@ -5,16 +5,17 @@ ghost use Rattle.sqlite.specs.Held.{state};
 ghost use Rattle.sqlite.specs.State.{HasCleanDisk};
 ghost use Rattle.queue_types.specs.Event.{ask, call_of, cancel_my_jobs, get_jobs};
 ghost use Rattle.queue_core.specs.Limits.{IsFair, IsSoundJob};
-ghost use Rattle.queue_core.specs.World.{cut, found_row, jobs_for, jobs_scene as scene_of_jobs, new_scene, numbered, queue_counts, rows};
+ghost use Rattle.queue_core.specs.World.{cut, found_row, jobs_for, jobs_scene as scene_of_jobs, new_scene, numbered, owner_row, queue_counts, rows};
+ghost use Rattle.queue_core.specs.Visible.{visible};
 ghost use Rattle.queue_tables.specs.Telling.{ReadsQueue};
 
-use crate::accounts::free_rows;
+use crate::accounts::{free_rows, owner_rows};
 use crate::counts::{all_counts, live_count};
 use crate::jobs::only_job;
 use crate::meta::next_number;
-use crate::own_jobs::{live_jobs, visible_jobs};
+use crate::own_jobs::{live_jobs, visible_jobs, visible_to_operators};
 use crate::own_numbers::numbered_jobs;
-use queue_core::{call_scene, jobs_scene, no_counts};
+use queue_core::{call_scene, jobs_scene, no_counts, sees_all};
 use queue_tables::fault::Fault;
 use queue_types::event::{Call, NumberList, Scene, WhichJobs};
 use queue_types::job::Job;
@@ -94,6 +95,23 @@ fn scene_of_job_and_account<S: Alter>(
     Ok(scene)
 }
 
+/// What Cancel-Job needs: that job and the account of its owner.
+fn scene_of_cancel<S: Alter>(
+    alloc: Global,
+    conn: &mut Connection<S>,
+    settings: &Settings,
+    number: u32,
+) -> Result<Scene, Fault>
+    ensures reads { ReadsQueue (state S.Store conn.old) (state S.Store conn.new) result (λ w s. settings.now ≡ w.settings → s ≡ scene_of_jobs w.settings (numbered number (rows w)) (owner_row w.free (numbered number (rows w)))) }
+    ensures live { HasCleanDisk (state S.Store conn.new) → OnOk result (IsTrue (state S.Store conn.new).is_open) }
+    ensures fair { IfOk result IsFair }
+{
+    let jobs = only_job(alloc, conn, number)?;
+    let free = owner_rows(alloc, conn, jobs.as_slice())?;
+    let scene = jobs_scene(alloc, settings, jobs, free)?;
+    Ok(scene)
+}
+
 /// The jobs as they are. They are damaged where they are more than there are job numbers.
 pub(crate) fn no_more_than_numbers(jobs: Vec<Job>) -> Result<Vec<Job>, Fault>
     ensures same { IfOk result (λ v. v.items ≡ jobs.items) }
@@ -113,7 +131,7 @@ fn my_jobs<S: Alter>(
     caller: &str,
     numbers: &Option<NumberList>,
 ) -> Result<Vec<Job>, Fault>
-    ensures reads { ReadsQueue (state S.Store conn.old) (state S.Store conn.new) result (λ w v. v.items ≡ jobs_for caller.now (cancel_my_jobs numbers.now) (rows w)) }
+    ensures reads { ReadsQueue (state S.Store conn.old) (state S.Store conn.new) result (λ w v. v.items ≡ jobs_for w.settings.operators caller.now (cancel_my_jobs numbers.now) (rows w)) }
     ensures live { HasCleanDisk (state S.Store conn.new) → IsTrue (state S.Store conn.old).is_open → OnOk result (IsTrue (state S.Store conn.new).is_open) }
     ensures sound { IfOk result (λ v. All IsSoundJob v.items) }
 {
@@ -142,6 +160,26 @@ fn scene_of_my_jobs<S: Alter>(
     Ok(scene)
 }
 
+/// The jobs that Get-Jobs shows: the caller's, or those of all callers.
+fn shown_jobs<S: Alter>(
+    alloc: Global,
+    conn: &mut Connection<S>,
+    all: bool,
+    caller: &str,
+    which: WhichJobs,
+    limit: Option<u32>,
+) -> Result<Vec<Job>, Fault>
+    ensures reads { ReadsQueue (state S.Store conn.old) (state S.Store conn.new) result (λ w v. v.items ≡ visible all caller.now which limit (rows w)) }
+    ensures live { HasCleanDisk (state S.Store conn.new) → OnOk result (IsTrue (state S.Store conn.new).is_open) }
+    ensures sound { IfOk result (λ v. All IsSoundJob v.items) }
+{
+    if all {
+        visible_to_operators(alloc, conn, which, limit)
+    } else {
+        visible_jobs(alloc, conn, caller, which, limit)
+    }
+}
+
 /// What Get-Jobs needs: the jobs that it shows.
 fn scene_of_shown<S: Alter>(
     alloc: Global,
@@ -150,12 +188,14 @@ fn scene_of_shown<S: Alter>(
     caller: &str,
     which: WhichJobs,
     limit: Option<u32>,
+    mine: bool,
 ) -> Result<Scene, Fault>
-    ensures reads { ReadsQueue (state S.Store conn.old) (state S.Store conn.new) result (λ w s. settings.now ≡ w.settings → s ≡ cut w 0 (ask caller.now (get_jobs which limit))) }
+    ensures reads { ReadsQueue (state S.Store conn.old) (state S.Store conn.new) result (λ w s. settings.now ≡ w.settings → s ≡ cut w 0 (ask caller.now (get_jobs which limit mine))) }
     ensures live { HasCleanDisk (state S.Store conn.new) → OnOk result (IsTrue (state S.Store conn.new).is_open) }
     ensures fair { IfOk result IsFair }
 {
-    let jobs = visible_jobs(alloc, conn, caller, which, limit)?;
+    let all = sees_all(settings.operators(), caller, mine);
+    let jobs = shown_jobs(alloc, conn, all, caller, which, limit)?;
     let jobs = no_more_than_numbers(jobs)?;
     let scene = jobs_scene(alloc, settings, jobs, Vec::new(alloc))?;
     Ok(scene)
@@ -180,12 +220,13 @@ pub(crate) fn scene_of_call<S: Alter>(
         Call::SendDocument { job, .. } | Call::GetJobAttributes { job } => {
             scene_of_job(alloc, conn, settings, *job)
         }
-        Call::CancelJob { job } | Call::HoldJob { job } | Call::ReleaseJob { job } => {
+        Call::CancelJob { job } => scene_of_cancel(alloc, conn, settings, *job),
+        Call::HoldJob { job } | Call::ReleaseJob { job } => {
             scene_of_job_and_account(alloc, conn, settings, caller, *job)
         }
         Call::CancelMyJobs { jobs } => scene_of_my_jobs(alloc, conn, settings, caller, jobs),
-        Call::GetJobs { which, limit } => {
-            scene_of_shown(alloc, conn, settings, caller, *which, *limit)
+        Call::GetJobs { which, limit, mine } => {
+            scene_of_shown(alloc, conn, settings, caller, *which, *limit, *mine)
         }
         Call::GetPrinterAttributes => scene_of_printer(alloc, conn, settings),
     }

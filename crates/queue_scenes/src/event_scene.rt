@@ -1,13 +1,13 @@
 //! The rows that an event needs.
-ghost use Rattle.std.specs.Prelude.{◌≡◌, All, IfOk, OnOk, IsTrue};
+ghost use Rattle.std.specs.Prelude.{◌≡◌, IfOk, OnOk, IsTrue};
 ghost use Rattle.sqlite.specs.Held.{state};
 ghost use Rattle.sqlite.specs.State.{HasCleanDisk};
 ghost use Rattle.queue_types.specs.Event.{tell, grant, event_of};
-ghost use Rattle.queue_core.specs.Limits.{IsAmount, IsFair};
-ghost use Rattle.queue_core.specs.World.{cut, owner_row};
+ghost use Rattle.queue_core.specs.Limits.{IsFair};
+ghost use Rattle.queue_core.specs.World.{cut};
 ghost use Rattle.queue_tables.specs.Telling.{ReadsQueue};
 
-use crate::accounts::free_rows;
+use crate::accounts::owner_rows;
 use crate::call_scene::scene_of_call;
 use crate::expiry_scene::scene_of_expire;
 use crate::grants::known_rows;
@@ -16,27 +16,10 @@ use crate::meta::next_number;
 use crate::reports::kept_report;
 use queue_core::{grants_scene, report_scene};
 use queue_tables::fault::Fault;
-use queue_types::event::{Event, FreeRow, GrantRow, Report, Scene};
-use queue_types::job::Job;
+use queue_types::event::{Event, GrantRow, Report, Scene};
 use queue_types::settings::Settings;
 use sqlite::{Alter, Connection};
 use std::alloc::Global;
-
-/// The account of the first job's owner.
-fn owner_rows<S: Alter>(
-    alloc: Global,
-    conn: &mut Connection<S>,
-    jobs: &[Job],
-) -> Result<Vec<FreeRow>, Fault>
-    ensures reads { ReadsQueue (state S.Store conn.old) (state S.Store conn.new) result (λ w v. v.items ≡ owner_row w.free jobs.now) }
-    ensures live { HasCleanDisk (state S.Store conn.new) → IsTrue (state S.Store conn.old).is_open → OnOk result (IsTrue (state S.Store conn.new).is_open) }
-    ensures within { IfOk result (λ v. All (λ a. IsAmount a.free) v.items) }
-{
-    match jobs {
-        [] => Ok(Vec::new(alloc)),
-        [job, ..] => free_rows(alloc, conn, job.owner.as_str()),
-    }
-}
 
 /// The rows that a report needs.
 fn scene_of_report<S: Alter>(

@@ -28,7 +28,7 @@ use Rattle.sqlite.specs.declared.types.Value.TheVariants.{Text as Words}
 -- ---- the state of the job
 
 abbrev state_out : Row → Row
-state_out v = column v 5 ∷ column v 6 ∷ column v 7 ∷ column v 8 ∷ []
+state_out v = column v 5 ∷ column v 6 ∷ column v 7 ∷ column v 8 ∷ column v 9 ∷ []
 
 states_for : (o : Option Job) → map state_out (found_rows o) ≡ rows_for state_values o
 states_for None = refl

@@ -14,11 +14,11 @@ use Rattle.queue_tables.proofs.Statements.{IsSelection, Selection}
 
 abbrev pub select_state : Selection
 select_state = record {
-  text = codes "SELECT hold, incoming, phase, why FROM jobs WHERE number = ?1";
-  names = codes "hold" ∷ codes "incoming" ∷ codes "phase" ∷ codes "why" ∷ [];
+  text = codes "SELECT hold, incoming, phase, why, stopping FROM jobs WHERE number = ?1";
+  names = codes "hold" ∷ codes "incoming" ∷ codes "phase" ∷ codes "why" ∷ codes "stopping" ∷ [];
   tree = 1;
   filter = op2 (Compare Eq Binary) (col 1 0) (col 0 0) ∷ [];
-  terms = col 1 6 ∷ col 1 7 ∷ col 1 8 ∷ col 1 9 ∷ [];
+  terms = col 1 6 ∷ col 1 7 ∷ col 1 8 ∷ col 1 9 ∷ col 1 10 ∷ [];
   order = [];
 }
 

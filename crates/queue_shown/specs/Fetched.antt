@@ -6,7 +6,7 @@ use Rattle.queue_core.specs.Shown.{may_be_fetched}
 use Rattle.queue_core.specs.World.{Entry}
 use Rattle.queue_types.specs.declared.job.Job.{Job}
 use Rattle.queue_types.specs.declared.document.Document.{Document}
-use Rattle.queue_rows.specs.Codes.{phase_number, why_number}
+use Rattle.queue_rows.specs.Codes.{phase_number, stopping_number, why_number}
 use Rattle.queue_tables.specs.Values.{number, truth}
 
 -- there is such a job
@@ -15,7 +15,7 @@ job_may_be_fetched o = option_map_or may_be_fetched o false
 
 -- the columns from which the state of a job comes
 abbrev pub state_values : Job → Row
-state_values j = truth j.hold ∷ truth j.incoming ∷ number (phase_number j.phase) ∷ number (why_number j.phase) ∷ []
+state_values j = truth j.hold ∷ truth j.incoming ∷ number (phase_number j.phase) ∷ number (why_number j.phase j.stopping) ∷ number (stopping_number j.phase j.stopping) ∷ []
 
 abbrev pub nth_document : Option Entry → ℕ → Option Document
 nth_document None n = None

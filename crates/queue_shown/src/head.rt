@@ -11,9 +11,10 @@ ghost use Rattle.queue_shown.specs.Fetched.{document_in, job_may_be_fetched, sta
 ghost use Rattle.queue_shown.specs.Heads.{head_values};
 ghost use Rattle.queue_tables.specs.Telling.{ReadsQueue};
 
+use queue_rows::codes::course_of;
 use queue_rows::laws::numbers_tell_names;
 use queue_tables::fault::Fault;
-use queue_tables::read::{flag, format, phase, value};
+use queue_tables::read::{flag, format, value};
 use queue_tables::select::select;
 use queue_types::document::DocumentHead;
 use queue_types::job::Phase;
@@ -31,6 +32,19 @@ fn may_be_fetched_in(phase: Phase, hold: bool, incoming: bool) -> bool
     }
 }
 
+/// The phase of a job, from the columns `phase`, `why` and `stopping` of [`may_fetch`]. Reports Damaged only if they are no job's.
+fn phase_in(row: &Row) -> Result<Phase, Fault>
+    ensures told { IfOk result (λ p. (j : JobValue) → row.now ≡ state_values j → p ≡ j.phase) }
+    ensures damaged { IfErr result (λ e. e ≡ Fault.Damaged → (j : JobValue) → row.now ≢ state_values j) }
+{
+    numbers_tell_names();
+    let phase: i64 = value(row, 2)?;
+    let why: i64 = value(row, 3)?;
+    let stopping: i64 = value(row, 4)?;
+    let (phase, _) = course_of(phase, why, stopping).ok_or(Fault::Damaged)?;
+    Ok(phase)
+}
+
 /// Whether the device may fetch the documents of the job of those columns. Damaged is told only where they are
 /// no job's.
 fn row_may_be_fetched(row: &Row) -> Result<bool, Fault>
@@ -40,7 +54,7 @@ fn row_may_be_fetched(row: &Row) -> Result<bool, Fault>
     numbers_tell_names();
     let hold = flag(row, 0)?;
     let incoming = flag(row, 1)?;
-    let phase = phase(row, 2, 3)?;
+    let phase = phase_in(row)?;
     Ok(may_be_fetched_in(phase, hold, incoming))
 }
 
@@ -52,7 +66,7 @@ fn may_fetch<S: Alter>(conn: &mut Connection<S>, job: u32) -> Result<bool, Fault
 {
     let found = select(
         conn,
-        "SELECT hold, incoming, phase, why FROM jobs WHERE number = ?1",
+        "SELECT hold, incoming, phase, why, stopping FROM jobs WHERE number = ?1",
         params![job],
     )?;
     match found.first() {

@@ -1,5 +1,5 @@
 -- Tables that were adopted, and files that were opened.
-use Rattle.std.proofs.Common.{◌≡◌, ◌<◌, Bool, true, ℕ, is_none, List, [], ◌∷◌, Result, Ok, Err, IfOk, IsTrue, false, inl, inr, map, length, refl, sym, ap, subst, ◌∙◌, arith}
+use Rattle.std.proofs.Common.{◌≡◌, ◌↔◌, ◌<◌, ℕ, Bool, List, [], ◌∷◌, Result, Ok, Err, IfOk, IsTrue, false, inl, inr, map, length, refl, sym, ap, subst, ◌∙◌, arith}
 use Rattle.std.proofs.lemmas.List.Sorted.{length_permutation}
 use Rattle.sqlite.specs.Effect.{Database, IsDatabase}
 use Rattle.sqlite.specs.Files.{AreFoundIn}
@@ -12,116 +12,117 @@ use Rattle.sqlite_trees.specs.Tree.{Trees}
 use Rattle.sqlite_trees.specs.declared.store.Store.{Ghosts}
 use Rattle.sqlite_wal.specs.Recovery.{Image}
 use Rattle.queue_types.specs.Settings.{SettingValues, AreSettings}
-use Rattle.queue_core.specs.World.{World}
+use Rattle.queue_core.specs.World.{World, rows}
 use Rattle.queue_rows.specs.Meta.{settings_in}
 use Rattle.queue_rows.specs.Rows.{Tables, meta_row}
-use Rattle.queue_rows.specs.Versions.{IsOf, Version, keep_in, policy_rows, first_version, second_version}
+use Rattle.queue_rows.specs.Versions.{IsOf, Version, first_version, keep_in, operator_rows, operators_in, policy_rows, second_version, third_version}
 use Rattle.queue_rows.specs.declared.rows.MetaRow.{MetaRow}
 use Rattle.queue_load.specs.Queues.{HasQueue}
 use Rattle.queue_load.specs.Store.{FitsIn}
 use Rattle.queue_tables.proofs.Ending.{same_holds}
 use Rattle.queue_tables.proofs.Leaving.{serves_then}
-use Rattle.queue_tables.specs.Content.{HasContent, HasFirst, HasQueueOf, content_of, numbered_content}
+use Rattle.queue_tables.specs.Content.{HasQueueOf, content_of}
 use Rattle.queue_tables.specs.Leaving.{LeavesTables}
-use Rattle.queue_tables.specs.Tables.{book_schema, first_schema, no_schema, schema_of}
+use Rattle.queue_tables.specs.Tables.{book_schema, no_schema, schema_of}
 use Rattle.queue_tables.specs.Values.{meta_view}
 use Rattle.queue_store.specs.Handed.{MakesBook}
 use Rattle.queue_store.specs.Kept.{IsHonest, StandsFor, shown_by, without_limit}
 use Rattle.queue_store.specs.Making.{MakesTables}
 use Rattle.queue_store.specs.New.{KeepsTables}
-use Rattle.queue_store.specs.Older.{HoldsFirst, IsFound, LeavesOldOrTaken, TakesQueue, is_first_version}
+use Rattle.queue_store.proofs.Stopping.{caused_holds}
+use Rattle.queue_store.specs.Older.{AreCaused, HaveCauses, HoldsQueueOf, IsFound, LeavesOldOrTaken, TakesQueue, version_in, version_of}
 use Rattle.queue_store.specs.Opened.{FitsFile, HasNoTables, HoldsOnly, IsKeptIn}
 use Rattle.queue_store.specs.declared.book.TableBook.{TableBook}
+use Rattle.queue_store.specs.declared.version.SchemaVersion.{SchemaVersion}
+use Rattle.queue_store.specs.declared.version.SchemaVersion.TheVariants.{First, Second, Third}
 
 row_of : (t : Tables) (d : Database) (has : HasQueue t d) → t.meta ≡ meta_row has.queue.version has.world ∷ []
 row_of t d has = sym (ap (λ (u : Tables). u.meta) has.rows)
 
 keep_of : (n : Version) (w : World) → IsOf n w → keep_in (policy_rows n w.settings.keep) ≡ w.settings.keep
-keep_of first_version w fits = sym fits
+keep_of first_version w fits = sym fits.0
 keep_of second_version w fits = refl
+keep_of third_version w fits = refl
+
+operators_of : (n : Version) (w : World) → IsOf n w → operators_in (operator_rows n w.settings.operators) ≡ w.settings.operators
+operators_of first_version w fits = sym fits.1
+operators_of second_version w fits = sym fits
+operators_of third_version w fits = refl
 
 -- the settings in the rows are those of the queue
-settings_of : (t : Tables) (d : Database) (has : HasQueue t d) → settings_in (keep_in t.policy) (meta_row has.queue.version has.world) ≡ has.world.settings
+settings_of : (t : Tables) (d : Database) (has : HasQueue t d) → settings_in (keep_in t.policy) (operators_in t.operators) (meta_row has.queue.version has.world) ≡ has.world.settings
 settings_of t d has =
     let w = has.world in
-    let rows : keep_in t.policy ≡ keep_in (policy_rows has.queue.version w.settings.keep) = sym (ap (λ (u : Tables). keep_in u.policy) has.rows) in
-    let keep : keep_in t.policy ≡ w.settings.keep = rows ∙ keep_of has.queue.version w has.queue.fits in
-    λ i. record w.settings { keep = keep i }
+    let policy : keep_in t.policy ≡ keep_in (policy_rows has.queue.version w.settings.keep) = sym (ap (λ (u : Tables). keep_in u.policy) has.rows) in
+    let keep : keep_in t.policy ≡ w.settings.keep = policy ∙ keep_of has.queue.version w has.queue.fits in
+    let names : operators_in t.operators ≡ operators_in (operator_rows has.queue.version w.settings.operators) = sym (ap (λ (u : Tables). operators_in u.operators) has.rows) in
+    let operators : operators_in t.operators ≡ w.settings.operators = names ∙ operators_of has.queue.version w has.queue.fits in
+    λ i. record w.settings { keep = keep i; operators = operators i }
 
-none_in : (n : Version) (keep : ℕ) → is_none (policy_rows n keep) ≡ is_first_version n
-none_in first_version keep = refl
-none_in second_version keep = refl
+version_again : (n : Version) (keep : ℕ) (operators : List (List ℕ)) → version_of (version_in (policy_rows n keep) (operator_rows n operators)) ≡ n
+version_again first_version keep operators = refl
+version_again second_version keep operators = refl
+version_again third_version keep operators = refl
 
-pub found : (t : Tables) (old new : State) (settings : SettingValues) (is_first : Bool) → HasQueue t old.now → IsLive old → IsUnchanged old new → (IsTrue old.is_open → old.now ≡ old.committed)
-    → old.in_transaction ≡ false → ((m : MetaRow) → t.meta ≡ m ∷ [] → settings ≡ settings_in (keep_in t.policy) m) → is_first ≡ is_none t.policy → IsFound old new settings is_first
-found t old new settings is_first has live same settled outside told first = record {
-  world = has.world;
-  queue = has.queue;
-  settings_are = told (meta_row has.queue.version has.world) (row_of t old.now has) ∙ settings_of t old.now has;
-  version = first ∙ sym (ap (λ (u : Tables). is_none u.policy) has.rows) ∙ none_in has.queue.version has.world.settings.keep;
-  same = same;
-  sound = subst IsDatabase (sym same.0.now_is) (live same.0.was_open).0;
-  settled = same.0.now_is ∙ (settled same.0.was_open ∙ sym same.0.committed_is);
-  outside = same.0.mode ∙ outside;
-}
-
--- ---- in the newest tables already
-
-newest : (n : Version) (w : World) (d : Database) → false ≡ is_first_version n → d.schema ≡ schema_of n → HasQueueOf n w d.trees → (d.schema ≡ book_schema) × HasContent (content_of w) d.trees
-newest first_version w d other schema has = absurd (let no = other in cc)
-newest second_version w d other schema has = (schema, has)
-
-pub taken_already : (old new : State) (settings : SettingValues) → IsFound old new settings false → TakesQueue old (without_limit new) settings
-taken_already old new settings it =
-    let held = newest it.queue.version it.world old.now it.version it.queue.schema it.queue.rows in
-    let same = it.same.0 in
+pub found : (t : Tables) (old new : State) (settings : SettingValues) (version : SchemaVersion) → HasQueue t old.now → IsLive old → IsUnchanged old new → (IsTrue old.is_open → old.now ≡ old.committed)
+    → old.in_transaction ≡ false → ((m : MetaRow) → t.meta ≡ m ∷ [] → settings ≡ settings_in (keep_in t.policy) (operators_in t.operators) m) → version ≡ version_in t.policy t.operators → IsFound old new settings version
+found t old new settings version has live same settled outside told is =
+    let n = has.queue.version in
+    let w = has.world in
     record {
-      world = it.world;
-      queue = it.queue;
-      keeps = record {
-        sound = it.queue.sound;
-        settings_are = it.settings_are;
-        holds = λ is_open. record {
-          schema = ap (λ (d : Database). d.schema) same.now_is ∙ held.0;
-          sound = it.sound;
-          rows = subst (λ (d : Database). HasContent (content_of it.world) d.trees) (sym same.now_is) held.1;
-          live = is_open;
-        };
-        settled = λ is_open. it.settled;
-        outside = λ is_open. it.outside;
-        unlimited = λ is_open. refl;
-      };
-      live = same.is_open;
+      world = w;
+      queue = has.queue;
+      settings_are = told (meta_row n w) (row_of t old.now has) ∙ settings_of t old.now has;
+      version_is = sym (version_again n w.settings.keep w.settings.operators) ∙ ap (λ (u : Tables). version_of (version_in u.policy u.operators)) has.rows ∙ ap version_of (sym is);
+      same = same.0.now_is;
+      live = same.0.is_open;
+      sound = subst IsDatabase (sym same.0.now_is) (live same.0.was_open).0;
+      settled = same.0.now_is ∙ (settled same.0.was_open ∙ sym same.0.committed_is);
+      outside = same.0.mode ∙ outside;
     }
 
--- ---- in those of the first version
+-- the tables of the newest version are of no other
+third_alone : (version : SchemaVersion) (s : Schema) → s ≡ schema_of (version_of version) → s ≡ book_schema → version ≡ Third
+third_alone First s of newest = let e : 7 ≡ 9 = ap (λ (t : Schema). length t.tables) (sym of ∙ newest) in absurd (omega (arith, e))
+third_alone Second s of newest = let e : 8 ≡ 9 = ap (λ (t : Schema). length t.tables) (sym of ∙ newest) in absurd (omega (arith, e))
+third_alone Third s of newest = refl
 
-first : (n : Version) (w : World) (d : Database) → true ≡ is_first_version n → IsOf n w → d.schema ≡ schema_of n → HasQueueOf n w d.trees → (d.schema ≡ first_schema) × HasFirst (numbered_content first_version w) d.trees × IsOf first_version w
-first first_version w d is fits schema has = (schema, has, fits)
-first second_version w d is fits schema has = absurd (let no = is in cc)
-
-apart : (n : Version) (s : Schema) → true ≡ is_first_version n → s ≡ schema_of n → s ≡ book_schema → ⊥
-apart first_version s is of newest = let e : 7 ≡ 8 = ap (λ (t : Schema). length t.tables) (sym of ∙ newest) in absurd (omega (arith, e))
-apart second_version s is of newest = absurd (let no = is in cc)
-
-module _ (old mid : State) (settings : SettingValues) (it : IsFound old mid settings true) where
-  -- tables of the first version are not of the newest
-  pub not_newest : {X : Type 0} → old.now.schema ≡ book_schema → X
-  not_newest is = absurd (apart it.queue.version old.now.schema it.version it.queue.schema is)
-
-  kept_ever : (old.now.schema ≡ first_schema) × HasFirst (numbered_content first_version it.world) old.now.trees × IsOf first_version it.world
-  kept_ever = first it.queue.version it.world old.now it.version it.queue.fits it.queue.schema it.queue.rows
-
-  pub is_of_first : IsOf first_version it.world
-  is_of_first = kept_ever.2
-
-  pub holds_first : HoldsFirst (numbered_content first_version it.world) mid
-  holds_first = record {
-    schema = ap (λ (d : Database). d.schema) it.same.0.now_is ∙ kept_ever.0;
+module _ (old mid : State) (settings : SettingValues) (version : SchemaVersion) (it : IsFound old mid settings version) where
+  pub found_holds : HoldsQueueOf (version_of version) it.world mid
+  found_holds = record {
+    schema_is = ap (λ (d : Database). d.schema) it.same ∙ it.queue.schema ∙ ap schema_of it.version_is;
     sound = it.sound;
-    rows = subst (λ (d : Database). HasFirst (numbered_content first_version it.world) d.trees) (sym it.same.0.now_is) kept_ever.1;
-    live = it.same.0.is_open;
+    rows = subst (λ (d : Database). HasQueueOf (version_of version) it.world d.trees) (sym it.same) (subst (λ n. HasQueueOf n it.world old.now.trees) it.version_is it.queue.rows);
+    live = it.live;
   }
+
+  pub found_fits : IsOf (version_of version) it.world
+  found_fits = subst (λ n. IsOf n it.world) it.version_is it.queue.fits
+
+  pub is_third : old.now.schema ≡ book_schema → version ≡ Third
+  is_third = third_alone version old.now.schema (it.queue.schema ∙ ap schema_of it.version_is)
+
+  -- tables that are as an open book has them are not migrated
+  pub not_migrated : {X : Type 0} (newest : Bool) → newest ≡ false → (IsTrue newest ↔ ((version ≡ Third) × AreCaused mid.now)) → old.now.schema ≡ book_schema → HaveCauses old.now → X
+  not_migrated newest other found is causes =
+      let yes : IsTrue newest = found.1 (is_third is, subst AreCaused (sym it.same) (causes it.world it.queue)) in
+      absurd (let no = sym other ∙ yes in cc)
+
+  -- after a query
+  pub still_found : (new : State) → LeavesTables mid new → HasCleanDisk new → IsTrue new.is_open → IsFound old new settings version
+  still_found new leaves clean live =
+      let same = leaves.same clean live in
+      record {
+        world = it.world;
+        queue = it.queue;
+        settings_are = it.settings_are;
+        version_is = it.version_is;
+        same = same ∙ it.same;
+        live = live;
+        sound = subst IsDatabase (sym same) it.sound;
+        settled = same ∙ it.settled ∙ sym (leaves.committed clean live);
+        outside = leaves.mode ∙ it.outside;
+      }
 
   pub taken_now : {T E : Type 0} {x : T} (new : State) → HasCleanDisk new → MakesTables {E = E} it.world mid new (Ok x) → TakesQueue old (without_limit new) settings
   taken_now new clean made =
@@ -146,6 +147,24 @@ module _ (old mid : State) (settings : SettingValues) (it : IsFound old mid sett
     | inr taken ↦ inr (it.world, it.queue, taken)
   ]
 
+-- in the newest tables already
+pub taken_already : (old new : State) (settings : SettingValues) → IsFound old new settings Third → AreCaused new.now → TakesQueue old (without_limit new) settings
+taken_already old new settings it caused =
+    let has = caused_holds (content_of it.world) (rows it.world) new refl (found_holds old new settings Third it) caused in
+    record {
+      world = it.world;
+      queue = it.queue;
+      keeps = record {
+        sound = it.queue.sound;
+        settings_are = it.settings_are;
+        holds = λ is_open. same_holds (content_of it.world) new (without_limit new) has refl is_open;
+        settled = λ is_open. it.settled;
+        outside = λ is_open. it.outside;
+        unlimited = λ is_open. refl;
+      };
+      live = it.live;
+    }
+
 -- ---- what a refusal leaves
 
 pub leaves_keeps : (old new : State) → LeavesTables old new → KeepsTables old new
@@ -165,7 +184,7 @@ keeps_then old mid new first last = record {
 }
 
 -- the settings of a sound queue are within their limits
-pub within_limits : (t : Tables) (d : Database) → HasQueue t d → ((m : MetaRow) → t.meta ≡ m ∷ [] → ¬ AreSettings (settings_in (keep_in t.policy) m)) → ⊥
+pub within_limits : (t : Tables) (d : Database) → HasQueue t d → ((m : MetaRow) → t.meta ≡ m ∷ [] → ¬ AreSettings (settings_in (keep_in t.policy) (operators_in t.operators) m)) → ⊥
 within_limits t d has beyond = beyond (meta_row has.queue.version has.world) (row_of t d has) (subst AreSettings (sym (settings_of t d has)) has.queue.sound.settings)
 
 -- ---- files
@@ -173,7 +192,8 @@ within_limits t d has beyond = beyond (meta_row has.queue.version has.world) (ro
 -- each version has the one row of the book itself
 meta_in : (n : Version) (w : World) (db : Trees) → HasQueueOf n w db → length (map meta_view (db 0)) ≡ 1
 meta_in first_version w db has = length_permutation _ _ has.meta.same
-meta_in second_version w db has = length_permutation _ _ has.meta.same
+meta_in second_version w db has = length_permutation _ _ has.first.meta.same
+meta_in third_version w db has = length_permutation _ _ has.second.first.meta.same
 
 -- a file with a row in it isn't empty
 present : (image : Image) (db : Trees) (n : Version) (w : World) → AreFoundIn image db → HasQueueOf n w db → 0 < length image.db

@@ -1,13 +1,16 @@
 -- What a call leaves of the world that a book keeps.
-use Rattle.std.proofs.Common.{◌≡◌, ℕ, false, inl, inr, IsSome, IsTrue, refl, sym, ◌∙◌}
+use Rattle.std.proofs.Common.{◌≡◌, ℕ, false, inl, inr, IfSome, IsSome, IsTrue, List, None, Option, Some, refl, sym, ◌∙◌}
+use Rattle.std.specs.FinMap.{get}
 use Rattle.std.proofs.lemmas.Bool.{cases_Bool}
 use Rattle.sqlite.specs.State.{State, HasCleanDisk}
-use Rattle.queue_types.specs.Settings.{SettingValues}
+use Rattle.queue_types.specs.Settings.{AreSettings, SettingValues}
+use Rattle.queue_types.specs.declared.event.KeptReport.{KeptReport}
 use Rattle.queue_core.specs.Shown.{document_at}
-use Rattle.queue_core.specs.Sound.{IsSound}
+use Rattle.queue_core.specs.Sound.{IsKept, IsSound}
 use Rattle.queue_core.specs.World.{World, empty_queue}
 use Rattle.queue_tables.specs.Content.{content_of}
 use Rattle.queue_tables.specs.Leaving.{LeavesTables}
+use Rattle.queue_tables.specs.Steps.{with_operators}
 use Rattle.queue_tables.proofs.Leaving.{holds_after}
 use Rattle.queue_store.specs.Kept.{Keeps}
 
@@ -50,3 +53,26 @@ open_with_document s settings job n honest sound there = elim (cases_Bool s.is_o
   where
     none : IsSome (document_at (empty_queue settings) job n) → ⊥
     none h = cc
+
+-- ---- other operators
+
+kept_with : (names : List (List ℕ)) (w : World) (job seq : ℕ) (o : Option KeptReport) → IfSome o (IsKept w job seq) → IfSome o (IsKept (with_operators names w) job seq)
+kept_with names w job seq None kept = tt
+kept_with names w job seq (Some k) kept = record { job = kept.job; seq = kept.seq; there = kept.there; positive = kept.positive; count = kept.count; total = kept.total }
+
+-- nothing else of a world speaks of its operators
+pub sound_with : (names : List (List ℕ)) (w : World) → AreSettings (with_operators names w).settings → IsSound w → IsSound (with_operators names w)
+sound_with names w settings s = record {
+  settings = settings;
+  numbers = s.numbers;
+  next = s.next;
+  entries = s.entries;
+  live = s.live;
+  grants = s.grants;
+  most = s.most;
+  accounts = s.accounts;
+  reports = λ job seq. kept_with names w job seq (get w.reports (job, seq)) (s.reports job seq);
+  counts = s.counts;
+  idle = s.idle;
+  balances = s.balances;
+}

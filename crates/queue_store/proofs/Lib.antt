@@ -16,3 +16,6 @@ pub mod Refused
 pub mod OneSchema
 pub mod Unharmed
 pub mod Taken
+pub mod Updates
+pub mod Stopping
+pub mod NewOperators

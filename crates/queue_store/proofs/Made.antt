@@ -21,9 +21,9 @@ use Rattle.sqlite_resolve.specs.Compile.{index_defined_by}
 use Rattle.sqlite_tied.specs.Compute.{everything}
 use Rattle.sqlite_trees.specs.declared.store.Store.{Ghosts}
 use Rattle.queue_tables.specs.Plain.{table_of}
-use Rattle.queue_tables.specs.Tables.{meta, jobs, documents, pieces, accounts, grants, reports, by_owner, by_end, by_phase, policy, by_age, no_schema, book_schema}
-use Rattle.queue_store.proofs.Schemas.{schema1, schema2, schema3, schema4, schema5, schema6, schema7, schema8, schema9, schema10, schema11, schema12, IsMade}
-use Rattle.queue_store.proofs.Texts.{meta_text, jobs_text, documents_text, pieces_text, accounts_text, grants_text, reports_text, by_owner_text, by_end_text, by_phase_text, policy_text, by_age_text}
+use Rattle.queue_tables.specs.Tables.{meta, jobs, documents, pieces, accounts, grants, reports, by_owner, by_end, by_phase, policy, by_age, operators, by_ended, no_schema, book_schema}
+use Rattle.queue_store.proofs.Schemas.{schema1, schema2, schema3, schema4, schema5, schema6, schema7, schema8, schema9, schema10, schema11, schema12, schema13, schema14, IsMade}
+use Rattle.queue_store.proofs.Texts.{meta_text, jobs_text, documents_text, pieces_text, accounts_text, grants_text, reports_text, by_owner_text, by_end_text, by_phase_text, policy_text, by_age_text, operators_text, by_ended_text}
 use Rattle.queue_tables.proofs.Writing.{same_value, went}
 use Rattle.queue_store.proofs.Batch.{first_ran, runs_in_batch}
 
@@ -216,19 +216,43 @@ by_age_is = record { command = refl; whole = refl; placed = refl; defined = refl
 makes_by_age : (old new : State) (count : ℕ) → IsMade schema11 old → ExecutesIn true (ended by_age_text) [] old new (Ok count) → IsMade schema12 new
 makes_by_age = indexes schema11 by_age_text 1 (table_of jobs) (record by_age { tree = 0 }) by_age_is
 
-sound_by_age : (old new : State) (count : ℕ) → IsMade schema11 old → ExecutesIn true (ended by_age_text) [] old new (Ok count) → IsDatabase new.now × IsTrue new.is_open
-sound_by_age old new count has h =
-    let w = index_written schema11 by_age_text 1 (table_of jobs) (record by_age { tree = 0 }) by_age_is old new count has h in
+-- ---- operators
+
+operators_is : Creates schema12 operators_text (record (table_of operators) { tree = 0 })
+unfolding understood everything
+operators_is = record { command = refl; whole = refl; defined = refl; plain = (refl, refl); unnumbered = refl }
+
+makes_operators : (old new : State) (count : ℕ) → IsMade schema12 old → ExecutesIn true (ended operators_text) [] old new (Ok count) → IsMade schema13 new
+makes_operators = makes schema12 operators_text (record (table_of operators) { tree = 0 }) operators_is
+
+-- ---- by_ended
+
+by_ended_is : Indexes schema13 by_ended_text 1 (table_of jobs) (record by_ended { tree = 0 })
+unfolding understood everything
+by_ended_is = record { command = refl; whole = refl; placed = refl; defined = refl; plain = (refl, refl) }
+
+makes_by_ended : (old new : State) (count : ℕ) → IsMade schema13 old → ExecutesIn true (ended by_ended_text) [] old new (Ok count) → IsMade schema14 new
+makes_by_ended = indexes schema13 by_ended_text 1 (table_of jobs) (record by_ended { tree = 0 }) by_ended_is
+
+sound_by_ended : (old new : State) (count : ℕ) → IsMade schema13 old → ExecutesIn true (ended by_ended_text) [] old new (Ok count) → IsDatabase new.now × IsTrue new.is_open
+sound_by_ended old new count has h =
+    let w = index_written schema13 by_ended_text 1 (table_of jobs) (record by_ended { tree = 0 }) by_ended_is old new count has h in
     (w.sound, w.shown.is_open)
 
-pub all_made : schema12 ≡ book_schema
+pub all_made : schema14 ≡ book_schema
 unfolding understood everything
 all_made = refl
 
 -- ---- the whole text, from its end
 
+abbrev text13 : List ℕ
+text13 = ended operators_text ++ ended by_ended_text
+
+abbrev text12 : List ℕ
+text12 = ended by_age_text ++ text13
+
 abbrev text11 : List ℕ
-text11 = ended policy_text ++ ended by_age_text
+text11 = ended policy_text ++ text12
 
 abbrev text10 : List ℕ
 text10 = ended by_phase_text ++ text11
@@ -305,13 +329,21 @@ by_phase_ends : Ends by_phase_text text11
 unfolding past_semi everything
 by_phase_ends = record { len = refl; some = omega arith }
 
-policy_ends : Ends policy_text (ended by_age_text)
+policy_ends : Ends policy_text text12
 unfolding past_semi everything
 policy_ends = record { len = refl; some = omega arith }
 
-by_age_ends : Ends by_age_text []
+by_age_ends : Ends by_age_text text13
 unfolding past_semi everything
 by_age_ends = record { len = refl; some = omega arith }
+
+operators_ends : Ends operators_text (ended by_ended_text)
+unfolding past_semi everything
+operators_ends = record { len = refl; some = omega arith }
+
+by_ended_ends : Ends by_ended_text []
+unfolding past_semi everything
+by_ended_ends = record { len = refl; some = omega arith }
 
 module _ {S : Type 0} (g : Ghosts S) (new : Held S) where
   -- the statements before the rest have made these tables
@@ -329,12 +361,12 @@ module _ {S : Type 0} (g : Ghosts S) (new : Held S) where
       let ran = first_ran g before.less (ended text) rest before.mid new ends.len ends.some before.ran in
       record { mid = ran.0; made = makes_it (state g before.mid) (state g ran.0) ran.1 before.made ran.2; less = ran.3; ran = ran.4 }
 
-  last_step : Reached schema11 (ended by_age_text) → IsMade schema12 (state g new) × IsDatabase (state g new).now × IsTrue (state g new).is_open
+  last_step : Reached schema13 (ended by_ended_text) → IsMade schema14 (state g new) × IsDatabase (state g new).now × IsTrue (state g new).is_open
   last_step before =
-      let ran = first_ran g before.less (ended by_age_text) [] before.mid new by_age_ends.len by_age_ends.some before.ran in
-      let made = makes_by_age (state g before.mid) (state g ran.0) ran.1 before.made ran.2 in
-      let sound = sound_by_age (state g before.mid) (state g ran.0) ran.1 before.made ran.2 in
-      subst (λ (h : Held S). IsMade schema12 (state g h) × IsDatabase (state g h).now × IsTrue (state g h).is_open) (sym ran.4.1) (made, sound.0, sound.1)
+      let ran = first_ran g before.less (ended by_ended_text) [] before.mid new by_ended_ends.len by_ended_ends.some before.ran in
+      let made = makes_by_ended (state g before.mid) (state g ran.0) ran.1 before.made ran.2 in
+      let sound = sound_by_ended (state g before.mid) (state g ran.0) ran.1 before.made ran.2 in
+      subst (λ (h : Held S). IsMade schema14 (state g h) × IsDatabase (state g h).now × IsTrue (state g h).is_open) (sym ran.4.1) (made, sound.0, sound.1)
 
   reached2 : Reached no_schema whole_text → Reached schema2 text3
   reached2 begun = step schema1 schema2 jobs_text text3 jobs_ends makes_jobs (step no_schema schema1 meta_text text2 meta_ends makes_meta begun)
@@ -351,10 +383,13 @@ module _ {S : Type 0} (g : Ghosts S) (new : Held S) where
   reached10 : Reached schema8 text9 → Reached schema10 text11
   reached10 eight = step schema9 schema10 by_phase_text text11 by_phase_ends makes_by_phase (step schema8 schema9 by_end_text text10 by_end_ends makes_by_end eight)
 
-  reached11 : Reached schema10 text11 → Reached schema11 (ended by_age_text)
-  reached11 ten = step schema10 schema11 policy_text (ended by_age_text) policy_ends makes_policy ten
+  reached12 : Reached schema10 text11 → Reached schema12 text13
+  reached12 ten = step schema11 schema12 by_age_text text13 by_age_ends makes_by_age (step schema10 schema11 policy_text text12 policy_ends makes_policy ten)
 
-pub makes_all : {S : Type 0} (g : Ghosts S) (old new : Held S) → (state g old).now.schema ≡ no_schema → ExecutesAllInside g 0 whole_text old new (Ok tt) → IsMade schema12 (state g new) × IsDatabase (state g new).now × IsTrue (state g new).is_open
+  reached13 : Reached schema12 text13 → Reached schema13 (ended by_ended_text)
+  reached13 twelve = step schema12 schema13 operators_text (ended by_ended_text) operators_ends makes_operators twelve
+
+pub makes_all : {S : Type 0} (g : Ghosts S) (old new : Held S) → (state g old).now.schema ≡ no_schema → ExecutesAllInside g 0 whole_text old new (Ok tt) → IsMade schema14 (state g new) × IsDatabase (state g new).now × IsTrue (state g new).is_open
 unfolding ExecutesAllInside
 makes_all g old new blank ran =
-    last_step g new (reached11 g new (reached10 g new (reached8 g new (reached6 g new (reached4 g new (reached2 g new (record { mid = old; made = record { schema_is = blank; empty = tt }; less = length whole_text; ran = ran })))))))
+    last_step g new (reached13 g new (reached12 g new (reached10 g new (reached8 g new (reached6 g new (reached4 g new (reached2 g new (record { mid = old; made = record { schema_is = blank; empty = tt }; less = length whole_text; ran = ran }))))))))

@@ -15,7 +15,7 @@ use Rattle.sqlite_schema.specs.declared.schema.Schema.{Schema}
 use Rattle.sqlite_schema.specs.declared.schema.Table.{Table}
 use Rattle.sqlite_trees.specs.Objects.{catalog_tree}
 use Rattle.sqlite_trees.specs.Tree.{IsAscending, Trees}
-use Rattle.queue_rows.specs.Versions.{Version, first_version, second_version}
+use Rattle.queue_rows.specs.Versions.{Version, first_version, second_version, third_version}
 use Rattle.queue_tables.specs.Tables.{schema_of}
 
 -- ---- lists
@@ -96,6 +96,7 @@ module _ (objects : List Row) (s t : Schema) (first : AreListed objects s) (seco
 no_views : (n : Version) → (schema_of n).views ≡ []
 no_views first_version = refl
 no_views second_version = refl
+no_views third_version = refl
 
 -- trees with the tables of a book are listed as no other schema
 pub one_schema : (n : Version) (schema : Schema) (db : Trees) → IsSound (schema_of n) db → IsSound schema db → schema ≡ schema_of n

@@ -7,7 +7,7 @@ use Rattle.sqlite.specs.Table.{Table}
 use Rattle.sqlite.specs.State.{State}
 use Rattle.sqlite_catalog.specs.Change.{indexed}
 use Rattle.queue_tables.specs.Plain.{table_of}
-use Rattle.queue_tables.specs.Tables.{meta, jobs, documents, pieces, accounts, grants, reports, by_owner, by_end, by_phase, policy, by_age, no_schema}
+use Rattle.queue_tables.specs.Tables.{meta, jobs, documents, pieces, accounts, grants, reports, by_owner, by_end, by_phase, policy, by_age, operators, by_ended, no_schema}
 
 abbrev pub schema1 : Schema
 schema1 = created no_schema (record (table_of meta) { tree = 0 })
@@ -44,6 +44,12 @@ schema11 = created schema10 (record (table_of policy) { tree = 0 })
 
 abbrev pub schema12 : Schema
 schema12 = indexed schema11 (table_of jobs) (record by_age { tree = 0 })
+
+abbrev pub schema13 : Schema
+schema13 = created schema12 (record (table_of operators) { tree = 0 })
+
+abbrev pub schema14 : Schema
+schema14 = indexed schema13 (table_of jobs) (record by_ended { tree = 0 })
 
 -- the tables are those of the schema, and have no rows
 pub record IsMade (schema : Schema) (s : State) : Type 0 where

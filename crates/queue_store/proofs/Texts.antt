@@ -36,3 +36,9 @@ by_age_text = codes "CREATE INDEX jobs_by_age ON jobs (phase, created)"
 
 abbrev pub by_phase_text : List ℕ
 by_phase_text = codes "CREATE INDEX jobs_by_phase ON jobs (phase, hold, incoming)"
+
+abbrev pub operators_text : List ℕ
+operators_text = codes "CREATE TABLE operators (name TEXT NOT NULL PRIMARY KEY) STRICT"
+
+abbrev pub by_ended_text : List ℕ
+by_ended_text = codes "CREATE INDEX jobs_by_ended ON jobs (ended)"

@@ -1,5 +1,5 @@
 -- A new book.
-use Rattle.std.specs.Prelude.{◌≡◌, ◌⊎◌, [], ◌∷◌, Bool, IsTrue}
+use Rattle.std.specs.Prelude.{◌≡◌, ◌⊎◌, [], ◌∷◌, Bool, IsTrue, List, map, ℕ}
 use Rattle.std.specs.List.{list_any}
 use Rattle.sqlite.specs.Schema.{Schema}
 use Rattle.sqlite.specs.State.{State, HasCleanDisk}
@@ -8,23 +8,26 @@ use Rattle.sqlite_trees.specs.Tree.{Trees}
 use Rattle.queue_types.specs.Settings.{SettingValues}
 use Rattle.queue_core.specs.World.{World, empty_queue}
 use Rattle.queue_rows.specs.Rows.{meta_row}
-use Rattle.queue_rows.specs.Versions.{policy_row, second_version}
+use Rattle.queue_rows.specs.Versions.{policy_row, third_version}
 use Rattle.queue_rows.specs.declared.rows.MetaRow.{MetaRow}
 use Rattle.queue_rows.specs.declared.rows.PolicyRow.{PolicyRow}
 use Rattle.queue_tables.specs.Content.{Content, IsBookOf}
 use Rattle.queue_tables.specs.Leaving.{KeepsServing}
 use Rattle.queue_tables.specs.Tables.{book_schema}
-use Rattle.queue_tables.specs.Values.{meta_values, policy_values}
+use Rattle.queue_tables.specs.Values.{meta_values, operator_values, policy_values}
 
 abbrev pub no_content : Content
-no_content = record { meta = []; jobs = []; documents = []; pieces = []; accounts = []; grants = []; reports = []; policy = [] }
+no_content = record { meta = []; jobs = []; documents = []; pieces = []; accounts = []; grants = []; reports = []; policy = []; operators = [] }
 
-abbrev pub new_content : MetaRow → PolicyRow → Content
-new_content m p = record no_content { meta = meta_values m ∷ []; policy = policy_values p ∷ [] }
+abbrev pub new_content : MetaRow → PolicyRow → List (List ℕ) → Content
+new_content m p operators = record no_content { meta = meta_values m ∷ []; policy = policy_values p ∷ []; operators = map operator_values operators }
+
+abbrev pub with_operator_rows : List (List ℕ) → Content → Content
+with_operator_rows names c = record c { operators = map operator_values names }
 
 -- the rows of a new book
 abbrev pub new_meta : SettingValues → MetaRow
-new_meta s = meta_row second_version (empty_queue s)
+new_meta s = meta_row third_version (empty_queue s)
 
 abbrev pub new_policy : SettingValues → PolicyRow
 new_policy s = policy_row s.keep

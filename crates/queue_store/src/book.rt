@@ -30,7 +30,7 @@ use std::alloc::{AllocError, Global};
 pub struct TableBook<S: Alter> {
     pub(crate) alloc: Global,
     pub(crate) conn: Connection<S>,
-    /// Those of the queue. They never change.
+    /// Those of the queue. Only its operators change.
     pub(crate) settings: Settings,
 }
 
@@ -109,7 +109,7 @@ fn make_new<S: Alter>(
     }
     let meta = first_row(alloc, settings)?;
     let policy = policy_row(settings);
-    make_tables(conn, &meta, &policy)
+    make_tables(conn, &meta, &policy, settings.operators())
 }
 
 impl<S: Alter> TableBook<S> {

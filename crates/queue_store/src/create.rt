@@ -12,9 +12,11 @@ ghost use Rattle.queue_tables.specs.Tables.{no_schema};
 ghost use Rattle.queue_tables.specs.Values.{meta_values, policy_values};
 ghost use Rattle.queue_tables.specs.declared.fault.Fault.TheVariants.{Damaged};
 
+use crate::operators::add_operators;
 use queue_rows::rows::{MetaRow, PolicyRow};
 use queue_tables::fault::Fault;
 use queue_tables::meta_rows::{insert_meta, insert_policy};
+use queue_types::operators::OperatorNames;
 use sqlite::{Alter, Connection, Transaction};
 
 /// What makes the tables of the book itself, of jobs, documents and pieces, of accounts, grants and reports, and their indexes.
@@ -31,7 +33,9 @@ const TABLES_AND_INDEXES: &str = "\
     CREATE INDEX jobs_by_end ON jobs (owner, ended);\
     CREATE INDEX jobs_by_phase ON jobs (phase, hold, incoming);\
     CREATE TABLE policy (one INTEGER PRIMARY KEY, keep INTEGER NOT NULL) STRICT;\
-    CREATE INDEX jobs_by_age ON jobs (phase, created);";
+    CREATE INDEX jobs_by_age ON jobs (phase, created);\
+    CREATE TABLE operators (name TEXT NOT NULL PRIMARY KEY) STRICT;\
+    CREATE INDEX jobs_by_ended ON jobs (ended);";
 
 /// All tables and indexes, which have no rows.
 fn create_schema<S: Alter>(tx: &mut Transaction<'_, S>) -> Result<(), Fault>
@@ -80,15 +84,17 @@ fn create_all<S: Alter>(
     tx: &mut Transaction<'_, S>,
     meta: &MetaRow,
     policy: &PolicyRow,
+    operators: &OperatorNames,
 ) -> Result<(), Fault>
     ensures same_reference { tx.new.conn.ghost_name ≡ tx.old.conn.ghost_name }
     ensures stays { StaysInside (state S.Store tx.old.conn.now) (state S.Store tx.new.conn.now) result }
-    ensures done { HasCleanDisk (state S.Store tx.new.conn.now) → OnOk result ((state S.Store tx.old.conn.now).now.schema ≡ no_schema → Holds (new_content meta.now policy.now) (state S.Store tx.new.conn.now)) }
+    ensures done { HasCleanDisk (state S.Store tx.new.conn.now) → OnOk result ((state S.Store tx.old.conn.now).now.schema ≡ no_schema → Holds (new_content meta.now policy.now operators.now) (state S.Store tx.new.conn.now)) }
     ensures never { IfErr result (λ e. e ≢ Damaged) }
 {
     create_schema(tx)?;
     add_meta(tx, meta)?;
-    add_policy(tx, policy)
+    add_policy(tx, policy)?;
+    add_operators(tx, operators)
 }
 
 /// Makes the tables of a book without jobs in a store without any, in one transaction. Whatever the answer, a crash then leaves
@@ -97,8 +103,9 @@ pub(crate) fn make_tables<S: Alter>(
     conn: &mut Connection<S>,
     meta: &MetaRow,
     policy: &PolicyRow,
+    operators: &OperatorNames,
 ) -> Result<(), Fault>
-    ensures makes { (state S.Store conn.old).now.schema ≡ no_schema → (w : World) → new_content meta.now policy.now ≡ content_of w → MakesTables w (state S.Store conn.old) (state S.Store conn.new) result }
+    ensures makes { (state S.Store conn.old).now.schema ≡ no_schema → (w : World) → new_content meta.now policy.now operators.now ≡ content_of w → MakesTables w (state S.Store conn.old) (state S.Store conn.new) result }
     ensures never { IfErr result (λ e. e ≢ Damaged) }
     ensures inside { IsTrue (state S.Store conn.old).in_transaction → (result ≡ Err Fault.Disk) × (conn.new ≡ conn.old) }
 {
@@ -106,7 +113,7 @@ pub(crate) fn make_tables<S: Alter>(
         return Err(Fault::Disk);
     }
     let mut tx = conn.transaction();
-    create_all(&mut tx, meta, policy)?;
+    create_all(&mut tx, meta, policy, operators)?;
     tx.commit()?;
     Ok(())
 }

@@ -1,5 +1,5 @@
 -- What the machine's decision on a sound world gives the writer of its change.
-use Rattle.std.proofs.Common.{◌≡◌, ℕ, List, [], ◌∷◌, Bool, true, false, if◌then◌else◌, Option, Some, None, IfSome, refl, sym, ap, subst, ◌∙◌, bytes_eq}
+use Rattle.std.proofs.Common.{◌≡◌, ℕ, List, [], ◌∷◌, Bool, true, false, if◌then◌else◌, Option, Some, None, IfSome, refl, sym, ap, subst, ◌∙◌, ◌||◌, bytes_eq}
 use Rattle.std.specs.FinMap.{get}
 use Rattle.queue_types.specs.declared.event.KeptReport.{KeptReport}
 use Rattle.queue_types.specs.declared.event.Report.{Report}
@@ -8,10 +8,11 @@ use Rattle.queue_types.specs.declared.job.Job.{Job}
 use Rattle.queue_types.specs.declared.job.Phase.{Phase}
 use Rattle.queue_types.specs.declared.job.Phase.TheVariants.{Waiting}
 use Rattle.std.specs.List.{list_all}
+use Rattle.queue_types.specs.Operators.{is_operator}
 use Rattle.queue_core.specs.Book.{IsDecisionOn}
 use Rattle.queue_types.specs.Event.{Call, Decision, Event, ask, tell, grant, expire, print_job, validate_job, create_job, send_document, cancel_job, cancel_my_jobs, hold_job, release_job, get_job_attributes}
 use Rattle.queue_core.specs.Grants.{Taken, all_taken, none_taken, take_rows}
-use Rattle.queue_core.specs.Machine.{accepted_where, call_row, decision, grant_row, hold_in, new_refusal, of_own, release_in, report_row, unless_refused, cancel_row, cancel_my_jobs_row, send_in, let_print, all_canceled, are_there, refused, answered, is_cancelable}
+use Rattle.queue_core.specs.Machine.{accepted_where, call_row, decision, grant_row, cause, hold_in, new_refusal, of_own, of_seen, release_in, report_row, unless_refused, cancel_row, cancel_my_jobs_row, send_in, let_print, all_canceled, are_there, refused, answered, is_cancelable}
 use Rattle.queue_core.specs.Reports.{reported}
 use Rattle.queue_core.specs.World.{World, cut}
 
@@ -32,6 +33,10 @@ silent_own : (caller : List ℕ) (row : Job → Decision) (js : List Job) → ((
 silent_own caller row [] p = refl
 silent_own caller row (j ∷ js) p = silent_if (bytes_eq j.owner caller) (row j) (refused 0x0406) (p j) refl
 
+silent_seen : (operators : List (List ℕ)) (caller : List ℕ) (row : Job → Decision) (js : List Job) → ((j : Job) → IsSilent (row j)) → IsSilent (of_seen operators caller row js)
+silent_seen operators caller row [] p = refl
+silent_seen operators caller row (j ∷ js) p = silent_if (bytes_eq j.owner caller || is_operator operators caller) (row j) (refused 0x0406) (p j) refl
+
 silent_hold : (p : Phase) (s : Scene) (j : Job) → IsSilent (hold_in p s j)
 silent_hold Waiting s j = refl
 silent_hold _ s j = refl
@@ -51,11 +56,11 @@ silent_call s now caller (print_job j format payload) = silent_unless (new_refus
 silent_call s now caller (validate_job j) = silent_unless (new_refusal s) _ refl
 silent_call s now caller (create_job j) = silent_unless (new_refusal s) _ refl
 silent_call s now caller (send_document n format payload last) = silent_own caller (λ j. send_in s j format payload last) s.jobs (λ j. silent_if _ _ _ refl refl)
-silent_call s now caller (cancel_job n) = silent_own caller (λ j. cancel_row s now j) s.jobs (λ j. silent_if _ _ _ refl refl)
+silent_call s now caller (cancel_job n) = silent_seen s.settings.operators caller (λ j. cancel_row s now (cause caller j) j) s.jobs (λ j. silent_if _ _ _ refl refl)
 silent_call s now caller (cancel_my_jobs numbers) = silent_my_jobs s now numbers
 silent_call s now caller (hold_job n) = silent_own caller (λ j. hold_in j.phase s j) s.jobs (λ j. silent_hold j.phase s j)
 silent_call s now caller (release_job n) = silent_own caller (λ j. release_in j.phase s j) s.jobs (λ j. silent_release j.phase s j)
-silent_call s now caller (get_job_attributes n) = silent_own caller (λ j. answered _) s.jobs (λ j. refl)
+silent_call s now caller (get_job_attributes n) = silent_seen s.settings.operators caller (λ j. answered _) s.jobs (λ j. refl)
 silent_call s now caller _ = refl
 
 silent_grant : (t : Taken) → IsSilent (grant_row t)

@@ -158,6 +158,7 @@ added_holds d w was s distinct there has =
       grants = same_order refl;
       reports = same_order refl;
       policy = same_order refl;
+      operators = same_order refl;
     }) has
 
 -- ---- what soundness of the made world gives

@@ -26,9 +26,9 @@ use Rattle.queue_types.specs.declared.job.Job.{Job}
 use Rattle.queue_types.specs.declared.event.GrantRow.{GrantRow}
 use Rattle.queue_types.specs.declared.event.KeptReport.{KeptReport}
 use Rattle.queue_tables.specs.Plain.{table_of}
-use Rattle.queue_tables.specs.Tables.{book_schema, jobs, documents, pieces, accounts, grants, reports}
+use Rattle.queue_tables.specs.Tables.{book_schema, jobs, documents, pieces, accounts, grants, operators, reports}
 use Rattle.queue_tables.specs.Kept.{HasRows, HasOne}
-use Rattle.queue_tables.specs.Values.{number, moment, job_values, job_view, document_view, piece_values, piece_view, account_values, account_view, grant_values, grant_view, report_values, report_view}
+use Rattle.queue_tables.specs.Values.{number, moment, job_values, job_view, document_view, piece_values, piece_view, account_values, account_view, grant_values, grant_view, operator_values, operator_view, report_values, report_view}
 use Rattle.queue_tables.specs.Content.{Content, HoldsWhileOpen}
 use Rattle.queue_tables.specs.Refusing.{IsRefused, IsRefusedByKey}
 use Rattle.queue_tables.specs.Steps.{is_numbered, are_numbered, is_piece, is_named, is_granted}
@@ -36,8 +36,8 @@ use Rattle.queue_tables.proofs.Permuting.{has_at}
 use Rattle.queue_tables.proofs.Refused.{refused_open}
 use Rattle.queue_tables.proofs.Allowed.{CanEnter}
 use Rattle.queue_tables.proofs.Entering.{enters, none_like, one_like}
-use Rattle.queue_tables.proofs.Rows.{job_stored, cast_job, document_row, cast_document, cast_piece, cast_new_account, cast_grant, cast_report}
-use Rattle.queue_tables.proofs.Statements.{insert_job_text, insert_job_terms, insert_job_is, jobs_still, insert_document_text, insert_document_terms, insert_document_is, documents_still, insert_piece_text, insert_piece_terms, insert_piece_is, pieces_still, insert_account_text, insert_account_terms, insert_account_is, accounts_still, insert_grant_text, insert_grant_terms, insert_grant_is, grants_still, insert_report_text, insert_report_terms, insert_report_is, reports_still}
+use Rattle.queue_tables.proofs.Rows.{job_stored, cast_job, document_row, cast_document, cast_piece, cast_new_account, cast_grant, cast_operator, cast_report}
+use Rattle.queue_tables.proofs.Statements.{insert_job_text, insert_job_terms, insert_job_is, jobs_still, insert_document_text, insert_document_terms, insert_document_is, documents_still, insert_piece_text, insert_piece_terms, insert_piece_is, pieces_still, insert_account_text, insert_account_terms, insert_account_is, accounts_still, insert_grant_text, insert_grant_terms, insert_grant_is, grants_still, insert_report_text, insert_report_terms, insert_report_is, reports_still, insert_operator_text, insert_operator_terms, insert_operator_is, operators_still}
 
 -- ---- jobs, whose number is the rowid
 
@@ -175,3 +175,23 @@ report_enters old new k c holds one none h =
     let has = holds (refused_open insert_report_text row old new h.rule h.refused) in
     enters insert_report_text 6 reports insert_report_terms 7 insert_report_is.command insert_report_is.plain refl (reports_still []) (inr (inr (inr (inr (inr (inr (inl refl))))))) old new row Null row h.rule c has refl
     (cast_report k) (report_can old.now.trees c k has.rows.jobs has.rows.reports one none) (λ e. absurd (h.not_rowid e)) h.refused
+
+-- ---- operators
+
+module _ (db : Trees) (c : Content) (name : List ℕ) where
+  abbrev new_operator : Row
+  new_operator = with_rowid Chosen (db 17) (Null ∷ operator_values name)
+
+  operator_can : HasRows ⊤ operator_view c.operators (db 17) → filter (is_named name) c.operators ≡ [] → CanEnter book_schema db (table_of operators) new_operator
+  unfolding everything
+  operator_can has none =
+      let unlike = none_like operator_view c.operators (db 17) has (is_named name) (λ (r : Row). agree plain (1 ∷ []) r (1 ∷ []) new_operator) (λ r. refl) none in
+      record { typed = refl; present = refl; checked = refl; alone = rw unlike refl; has_parents = refl }
+
+pub operator_enters : (old new : State) (name : List ℕ) (c : Content) → HoldsWhileOpen c old → filter (is_named name) c.operators ≡ [] → IsRefusedByKey insert_operator_text (operator_values name) old new → ⊥
+operator_enters old new name c holds none h =
+    let row = operator_values name in
+    let has = holds (refused_open insert_operator_text row old new h.rule h.refused) in
+    enters insert_operator_text 8 operators insert_operator_terms 2 insert_operator_is.command insert_operator_is.plain refl (operators_still []) (inr (inr (inr (inr (inr (inr (inr (inr (inl refl)))))))))
+    old new row Null row h.rule c has refl
+    (cast_operator name) (operator_can old.now.trees c name has.rows.operators none) (λ e. absurd (h.not_rowid e)) h.refused

@@ -19,7 +19,7 @@ use Rattle.queue_types.specs.declared.event.FreeRow.{FreeRow}
 use Rattle.queue_core.specs.World.{World, put_free, text_cmp}
 use Rattle.queue_core.specs.Sound.{reserved, printed}
 use Rattle.queue_rows.specs.Rows.{meta_row}
-use Rattle.queue_rows.specs.Versions.{second_version}
+use Rattle.queue_rows.specs.Versions.{third_version}
 use Rattle.queue_rows.specs.declared.rows.MetaRow.{MetaRow}
 use Rattle.queue_tables.specs.Plain.{table_of}
 use Rattle.queue_tables.proofs.PlainQueries.{shown_of}
@@ -113,6 +113,7 @@ adds_new a w s none covered has =
       grants = same_order refl;
       reports = same_order refl;
       policy = same_order refl;
+      operators = same_order refl;
     }) has
 
 -- ---- one account after another
@@ -165,7 +166,7 @@ put_one m n is = rw is refl
 
 pub puts_next : (old new : State) (n count : ℕ) (w : World) → Holds (content_of w) old → ExecutesInside 0 update_next_text (number n ∷ []) old new (Ok count) → Holds (content_of (with_next n w)) new
 puts_next old new n count w has h =
-    let m = meta_row second_version w in
+    let m = meta_row third_version w in
     let is : is_numbered 1 (meta_values m) ≡ true = numbered_meta m refl in
     let l = updates_row book_schema update_next_text 0 meta update_next_where update_next_terms update_next_is.command update_next_is.plain refl (λ db. refl) meta_still
     meta_view (content_of w).meta (is_numbered 1) (next_put n)

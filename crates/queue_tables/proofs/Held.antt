@@ -9,7 +9,7 @@ use Rattle.sqlite.specs.Order.{Row}
 use Rattle.sqlite.specs.State.{State}
 use Rattle.queue_tables.specs.Kept.{HasRows}
 use Rattle.queue_tables.specs.Tables.{book_schema}
-use Rattle.queue_tables.specs.Values.{meta_view, policy_view, job_view, document_view, piece_view, account_view, grant_view, report_view}
+use Rattle.queue_tables.specs.Values.{meta_view, operator_view, policy_view, job_view, document_view, piece_view, account_view, grant_view, report_view}
 use Rattle.queue_tables.specs.Content.{Content, Holds}
 use Rattle.queue_tables.proofs.Changing.{Left}
 
@@ -20,11 +20,11 @@ moved {K} {view} {values} e h = subst (HasRows K view values) (sym e) h
 
 -- whether rows of it are put anew, which their rowids tell apart
 abbrev keyed : ℕ → Type 0
-keyed t = T (t == 0 || (t == 1 || (t == 6 || t == 15)))
+keyed t = T (t == 0 || (t == 1 || (t == 6 || (t == 15 || t == 17))))
 
 abbrev view_of : ℕ → Row → Row
 view_of t =
-    if t == 0 then meta_view else (if t == 1 then job_view else (if t == 2 then document_view else (if t == 4 then piece_view else (if t == 6 then account_view else (if t == 8 then grant_view else (if t == 15 then policy_view else report_view))))))
+    if t == 0 then meta_view else (if t == 1 then job_view else (if t == 2 then document_view else (if t == 4 then piece_view else (if t == 6 then account_view else (if t == 8 then grant_view else (if t == 15 then policy_view else (if t == 17 then operator_view else report_view)))))))
 
 abbrev with_table : ℕ → List Row → Content → Content
 with_table t values c = record {
@@ -36,6 +36,7 @@ with_table t values c = record {
   grants = if t == 8 then values else c.grants;
   reports = if t == 10 then values else c.reports;
   policy = if t == 15 then values else c.policy;
+  operators = if t == 17 then values else c.operators;
 }
 
 module _ (tree : ℕ) (c : Content) (values : List Row) (old new : State) (has : Holds c old) (l : Left (keyed tree) book_schema (view_of tree) tree values old new) where
@@ -59,6 +60,7 @@ module _ (tree : ℕ) (c : Content) (values : List Row) (old new : State) (has :
       grants = one_table 8 c.grants l.others.1.1.1.1.1.0 has.rows.grants;
       reports = one_table 10 c.reports l.others.1.1.1.1.1.1.0 has.rows.reports;
       policy = one_table 15 c.policy l.others.1.1.1.1.1.1.1.0 has.rows.policy;
+      operators = one_table 17 c.operators l.others.1.1.1.1.1.1.1.1.0 has.rows.operators;
     };
     live = is_open;
   }
@@ -89,6 +91,9 @@ holds_reports = holds_table 10
 pub holds_policy : (c : Content) (values : List Row) (old new : State) → Holds c old → Left ⊤ book_schema policy_view 15 values old new → IsTrue new.is_open → Holds (record c { policy = values }) new
 holds_policy = holds_table 15
 
+pub holds_operators : (c : Content) (values : List Row) (old new : State) → Holds c old → Left ⊤ book_schema operator_view 17 values old new → IsTrue new.is_open → Holds (record c { operators = values }) new
+holds_operators = holds_table 17
+
 -- ---- contents that are alike
 
 pub reordered : {K : Type 0} {view : Row → Row} {values others rows : List Row} → IsPermutation values others → HasRows K view values rows → HasRows K view others rows
@@ -111,6 +116,7 @@ pub record IsLike (c d : Content) : Type 0 where
   pub grants : IsPermutation c.grants d.grants
   pub reports : IsPermutation c.reports d.reports
   pub policy : IsPermutation c.policy d.policy
+  pub operators : IsPermutation c.operators d.operators
 
 pub like_holds : (c d : Content) (s : State) → IsLike c d → Holds c s → Holds d s
 like_holds c d s l h = record {
@@ -125,6 +131,7 @@ like_holds c d s l h = record {
     grants = reordered l.grants h.rows.grants;
     reports = reordered l.reports h.rows.reports;
     policy = reordered l.policy h.rows.policy;
+    operators = reordered l.operators h.rows.operators;
   };
   live = h.live;
 }

@@ -9,8 +9,9 @@ use Rattle.sqlite.specs.Tree.{rowid}
 use Rattle.sqlite.specs.State.{State, ExecutesInside, Shown}
 use Rattle.queue_types.specs.declared.job.Job.{Job}
 use Rattle.queue_types.specs.declared.job.Phase.{Phase}
+use Rattle.queue_types.specs.declared.job.Why.{Why}
 use Rattle.queue_core.specs.World.{World, rows, job_at}
-use Rattle.queue_rows.specs.Codes.{phase_number, why_number, flag_number}
+use Rattle.queue_rows.specs.Codes.{phase_number, stopping_number, why_number, flag_number}
 use Rattle.queue_tables.specs.Tables.{book_schema, jobs}
 use Rattle.queue_tables.specs.Values.{number, moment, job_values, job_view}
 use Rattle.queue_tables.specs.Content.{Content, Holds, content_of}
@@ -73,9 +74,13 @@ same_moment (Some m) (Some n) e = ap (λ (k : ℕ). Some k) (same_int m n e)
 same_words : (s t : List ℕ) → Words s ≡ Words t → s ≡ t
 same_words s t e = cc
 
-pub same_job : ((p q : Phase) → phase_number p ≡ phase_number q → why_number p ≡ why_number q → p ≡ q) → ((a b : Bool) → flag_number a ≡ flag_number b → a ≡ b)
+-- the numbers of a course tell it
+abbrev pub TellCourses : Type 0
+TellCourses = (p q : Phase) (s t : Option Why) → phase_number p ≡ phase_number q → why_number p s ≡ why_number q t → stopping_number p s ≡ stopping_number q t → (p ≡ q) × (s ≡ t)
+
+pub same_job : TellCourses → ((a b : Bool) → flag_number a ≡ flag_number b → a ≡ b)
     → (j k : Job) → job_values j ≡ job_values k → j.documents ≡ 0 → j.octets ≡ 0 → j ≡ bare k
-same_job phases flags j k e documents octets =
+same_job courses flags j k e documents octets =
     let at : (i : ℕ) → column (job_values j) i ≡ column (job_values k) i = λ i. ap (λ (v : Row). column v i) e in
     let n = same_int j.number k.number (at 0) in
     let o = same_words j.owner k.owner (at 1) in
@@ -84,8 +89,9 @@ same_job phases flags j k e documents octets =
     let i = same_int j.impressions k.impressions (at 4) in
     let h = flags j.hold k.hold (same_int _ _ (at 5)) in
     let inc = flags j.incoming k.incoming (same_int _ _ (at 6)) in
-    let p = phases j.phase k.phase (same_int _ _ (at 7)) (same_int _ _ (at 8)) in
-    let s = flags j.stopping k.stopping (same_int _ _ (at 9)) in
+    let course = courses j.phase k.phase j.stopping k.stopping (same_int _ _ (at 7)) (same_int _ _ (at 8)) (same_int _ _ (at 9)) in
+    let p = course.0 in
+    let s = course.1 in
     let t = same_int j.count k.count (at 10) in
     let r = same_int j.created k.created (at 11) in
     let b = same_moment j.begun k.begun (at 12) in
@@ -93,11 +99,11 @@ same_job phases flags j k e documents octets =
     λ x. record { number = n x; owner = o x; name = m x; copies = c x; impressions = i x; hold = h x; incoming = inc x; phase = p x; stopping = s x; count = t x; created = r x; begun = b x; ended = d x; documents = documents x; octets = octets x }
 
 -- so is the job that was read of a row
-pub read_bare : ((p q : Phase) → phase_number p ≡ phase_number q → why_number p ≡ why_number q → p ≡ q) → ((a b : Bool) → flag_number a ≡ flag_number b → a ≡ b)
+pub read_bare : TellCourses → ((a b : Bool) → flag_number a ≡ flag_number b → a ≡ b)
     → (row : Row) (j k : Job) → (length row ≡ 14 → row ≡ job_values j) → (j.documents ≡ 0) × (j.octets ≡ 0) → row ≡ job_values k → j ≡ bare k
-read_bare phases flags row j k reads plain is =
+read_bare courses flags row j k reads plain is =
     let read : row ≡ job_values j = reads (ap (length {A = Value}) is) in
-    same_job phases flags j k (sym read ∙ is) plain.0 plain.1
+    same_job courses flags j k (sym read ∙ is) plain.0 plain.1
 
 -- and with the sizes of its documents it is the job
 pub counted_job : (j k : Job) (documents octets : ℕ) → j ≡ bare k → documents ≡ k.documents → octets ≡ k.octets → record j { documents = documents; octets = octets } ≡ k
@@ -107,11 +113,11 @@ counted_job j k documents octets is d o =
 pub found_none : (rs : List Row) (o : Option Job) → slice_get rs 0 ≡ None → rs ≡ found_rows o → None ≡ option_map bare o
 found_none rs o none is = sym (ap (option_map bare) (first_none job_values rs o none is))
 
-pub found_some : ((p q : Phase) → phase_number p ≡ phase_number q → why_number p ≡ why_number q → p ≡ q) → ((a b : Bool) → flag_number a ≡ flag_number b → a ≡ b)
+pub found_some : TellCourses → ((a b : Bool) → flag_number a ≡ flag_number b → a ≡ b)
     → (rs : List Row) (row : Row) (j : Job) (o : Option Job) → slice_get rs 0 ≡ Some row → (length row ≡ 14 → row ≡ job_values j) → (j.documents ≡ 0) × (j.octets ≡ 0) → rs ≡ found_rows o → Some j ≡ option_map bare o
-found_some phases flags rs row j o some reads plain is =
+found_some courses flags rs row j o some reads plain is =
     let it = first_some job_values rs row o some is in
-    ap (λ (x : Job). Some x) (read_bare phases flags row j it.0 reads plain it.2) ∙ sym (ap (option_map bare) it.1)
+    ap (λ (x : Job). Some x) (read_bare courses flags row j it.0 reads plain it.2) ∙ sym (ap (option_map bare) it.1)
 
 -- ---- what is read of it
 

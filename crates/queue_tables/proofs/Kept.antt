@@ -27,6 +27,7 @@ grant_added g w s none has = like_holds (with_grant_row (grant_values g) (conten
   grants = rows_with grant_total (λ (e : (List ℕ × List ℕ) × ℕ). grant_values (grant_row e)) w.grants (g.batch, g.account) g.pages none;
   reports = same_order refl;
   policy = same_order refl;
+  operators = same_order refl;
 }) has
 
 pub report_added : (k : KeptReport) (w : World) (s : State) → get w.reports (k.report.job, k.report.seq) ≡ None → Holds (with_report_row (report_values k) (content_of w)) s → Holds (content_of (with_kept (Some k) w)) s
@@ -39,6 +40,7 @@ report_added k w s none has = like_holds (with_report_row (report_values k) (con
   grants = same_order refl;
   reports = rows_with report_total (λ (e : (ℕ × ℕ) × KeptReport). report_values e.1) w.reports (k.report.job, k.report.seq) k none;
   policy = same_order refl;
+  operators = same_order refl;
 }) has
 
 -- ---- one grant after another

@@ -48,3 +48,5 @@ pub mod Committing
 pub mod Telling
 mod Chain
 pub mod Numbered
+mod Emptying
+pub mod OperatorRows

@@ -57,15 +57,15 @@ put_one : (m : MetaRow) (n : ℕ) → is_numbered 1 (meta_values m) ≡ true →
 unfolding schema_put
 put_one m n is = rw is refl
 
-pub numbers_schema : (old new : State) (count : ℕ) (v : Version) (w : World) → Holds (numbered_content v w) old → ExecutesInside 0 update_schema_text (number 2 ∷ []) old new (Ok count) → Holds (content_of w) new
+pub numbers_schema : (old new : State) (count : ℕ) (v : Version) (w : World) → Holds (numbered_content v w) old → ExecutesInside 0 update_schema_text (number 3 ∷ []) old new (Ok count) → Holds (content_of w) new
 numbers_schema old new count v w has h =
     let m = meta_row v w in
     let c = numbered_content v w in
     let is : is_numbered 1 (meta_values m) ≡ true = numbered_meta m refl in
     let l = updates_row book_schema update_schema_text 0 meta update_next_where update_schema_terms update_schema_is.command update_schema_is.plain refl (λ db. refl) meta_still
-    meta_view c.meta (is_numbered 1) (schema_put 2)
-    old new (number 2 ∷ []) (meta_values m) (schema_stored m 2) count has.schema
+    meta_view c.meta (is_numbered 1) (schema_put 3)
+    old new (number 3 ∷ []) (meta_values m) (schema_stored m 3) count has.schema
     (λ r. refl)
-    (λ r id keyed like. (schema_shown m 2 r id keyed like, cast_schema m 2 id, schema_id m 2 id, schema_view m 2 r id keyed like))
+    (λ r id keyed like. (schema_shown m 3 r id keyed like, cast_schema m 3 id, schema_id m 3 id, schema_view m 3 r id keyed like))
     has.rows.meta (rw is refl) h.0 in
-    subst (λ (vs : List Row). Holds (record c { meta = vs }) new) (put_one m 2 is) (holds_meta c _ old new has l h.1.is_open)
+    subst (λ (vs : List Row). Holds (record c { meta = vs }) new) (put_one m 3 is) (holds_meta c _ old new has l h.1.is_open)

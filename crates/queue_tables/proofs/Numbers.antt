@@ -10,7 +10,7 @@ use Rattle.sqlite_value.proofs.OrderLemmas.{value_cmp-Int, value_cmp-Text}
 use Rattle.queue_types.specs.declared.job.Job.{Job}
 use Rattle.queue_rows.specs.declared.rows.DocumentRow.{DocumentRow}
 use Rattle.queue_rows.specs.declared.rows.MetaRow.{MetaRow}
-use Rattle.queue_tables.specs.Values.{meta_values, job_values, document_values, account_values}
+use Rattle.queue_tables.specs.Values.{meta_values, job_values, document_values, account_values, operator_values}
 use Rattle.queue_tables.specs.Steps.{is_numbered, is_named}
 
 pub passed : (b : Bool) → (is_true (from_truth (Some b)) && true) ≡ b
@@ -41,3 +41,7 @@ numbered_meta m one = rw (value_cmp-Int (pos m.one) (pos 1)) (passed _) ∙ same
 pub named_account : (name a : List ℕ) (free x y : ℤ) → is_named name (account_values a free x y) ≡ bytes_eq a name
 unfolding binary
 named_account name a free x y = rw (value_cmp-Text a name) (passed _) ∙ is_eq-slice_cmp a name
+
+pub named_operator : (name a : List ℕ) → is_named name (operator_values a) ≡ bytes_eq a name
+unfolding binary
+named_operator name a = rw (value_cmp-Text a name) (passed _) ∙ is_eq-slice_cmp a name

@@ -159,6 +159,7 @@ entered j w s none has = like_holds (with_sums j.owner (pos (owed j)) (pos j.cou
   grants = same_order refl;
   reports = same_order refl;
   policy = same_order refl;
+  operators = same_order refl;
 }) has
 
 -- ---- a job that is there
@@ -202,6 +203,7 @@ module _ (j was : Job) (w : World) (s : IsSummable w.jobs) (there : job_at j.num
     grants = same_order refl;
     reports = same_order refl;
     policy = same_order refl;
+    operators = same_order refl;
   }) has
 
 -- ---- one job after another

@@ -11,7 +11,7 @@ use Rattle.sqlite_tied.specs.Compute.{everything}
 use Rattle.queue_types.specs.declared.job.Job.{Job}
 use Rattle.queue_core.specs.World.{World}
 use Rattle.queue_rows.specs.Rows.{meta_row}
-use Rattle.queue_rows.specs.Versions.{second_version}
+use Rattle.queue_rows.specs.Versions.{third_version}
 use Rattle.queue_rows.specs.declared.rows.MetaRow.{MetaRow}
 use Rattle.queue_tables.specs.Tables.{book_schema, meta, jobs, accounts}
 use Rattle.queue_tables.specs.Values.{number, meta_values, meta_view, job_values, job_view, account_values, account_view}
@@ -119,7 +119,7 @@ present_next m n id = refl
 
 pub next_stands : (old new : State) (n : ℕ) (w : World) → Holds (content_of w) old → (rule : Constraint) → ¬ ExecutesInside 0 update_next_text (number n ∷ []) old new (Err (told rule))
 next_stands old new n w has rule =
-    let m = meta_row second_version w in
+    let m = meta_row third_version w in
     let is : is_numbered 1 (meta_values m) ≡ true = numbered_meta m refl in
     update_stands update_next_text 0 meta update_next_where update_next_terms update_next_is.command update_next_is.plain refl (λ db. refl) meta_still [] meta_keys
     meta_view (content_of w).meta (is_numbered 1) old new (number n ∷ []) (meta_values m) (next_stored m n) rule has.schema (obeyed (content_of w) old has)

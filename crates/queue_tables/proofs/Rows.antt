@@ -7,18 +7,18 @@ use Rattle.sqlite.specs.State.{State, ExecutesInside}
 use Rattle.queue_types.specs.declared.job.Job.{Job}
 use Rattle.queue_types.specs.declared.event.GrantRow.{GrantRow}
 use Rattle.queue_types.specs.declared.event.KeptReport.{KeptReport}
-use Rattle.queue_rows.specs.Codes.{phase_number, why_number, kind_number, flag_number, job_state_number}
+use Rattle.queue_rows.specs.Codes.{phase_number, stopping_number, why_number, kind_number, flag_number, job_state_number}
 use Rattle.queue_rows.specs.declared.rows.MetaRow.{MetaRow}
 use Rattle.queue_rows.specs.declared.rows.PolicyRow.{PolicyRow}
 use Rattle.queue_tables.specs.Plain.{table_of}
-use Rattle.queue_tables.specs.Tables.{book_schema, meta, policy, jobs, documents, pieces, accounts, grants, reports}
-use Rattle.queue_tables.specs.Values.{number, moment, meta_values, meta_view, policy_values, policy_view, job_values, job_view, document_view, piece_values, piece_view, account_values, account_view, grant_values, grant_view, report_values, report_view}
+use Rattle.queue_tables.specs.Tables.{book_schema, meta, operators, policy, jobs, documents, pieces, accounts, grants, reports}
+use Rattle.queue_tables.specs.Values.{number, moment, meta_values, meta_view, operator_values, operator_view, policy_values, policy_view, job_values, job_view, document_view, piece_values, piece_view, account_values, account_view, grant_values, grant_view, report_values, report_view}
 use Rattle.queue_tables.specs.Content.{Content, Holds}
-use Rattle.queue_tables.specs.Steps.{with_meta_row, with_policy_row, with_job_row, with_document_row, with_piece_row, with_account_row, with_grant_row, with_report_row}
+use Rattle.queue_tables.specs.Steps.{with_meta_row, with_operator_row, with_policy_row, with_job_row, with_document_row, with_piece_row, with_account_row, with_grant_row, with_report_row}
 use Rattle.queue_tables.proofs.Casts.{cast_null, cast_int, cast_moment}
 use Rattle.queue_tables.proofs.Changing.{Left, inserts_row}
-use Rattle.queue_tables.proofs.Held.{holds_meta, holds_policy, holds_jobs, holds_documents, holds_pieces, holds_accounts, holds_grants, holds_reports, reordered, at_end}
-use Rattle.queue_tables.proofs.Statements.{insert_meta_text, insert_meta_terms, insert_meta_is, meta_still, insert_policy_text, insert_policy_terms, insert_policy_is, policy_still, insert_job_text, insert_job_terms, insert_job_is, jobs_still, insert_document_text, insert_document_terms, insert_document_is, documents_still, insert_piece_text, insert_piece_terms, insert_piece_is, pieces_still, insert_account_text, insert_account_terms, insert_account_is, accounts_still, insert_grant_text, insert_grant_terms, insert_grant_is, grants_still, insert_report_text, insert_report_terms, insert_report_is, reports_still}
+use Rattle.queue_tables.proofs.Held.{holds_meta, holds_operators, holds_policy, holds_jobs, holds_documents, holds_pieces, holds_accounts, holds_grants, holds_reports, reordered, at_end}
+use Rattle.queue_tables.proofs.Statements.{insert_meta_text, insert_meta_terms, insert_meta_is, meta_still, insert_policy_text, insert_policy_terms, insert_policy_is, policy_still, insert_operator_text, insert_operator_terms, insert_operator_is, operators_still, insert_job_text, insert_job_terms, insert_job_is, jobs_still, insert_document_text, insert_document_terms, insert_document_is, documents_still, insert_piece_text, insert_piece_terms, insert_piece_is, pieces_still, insert_account_text, insert_account_terms, insert_account_is, accounts_still, insert_grant_text, insert_grant_terms, insert_grant_is, grants_still, insert_report_text, insert_report_terms, insert_report_is, reports_still}
 
 -- the new row stands last
 last : {K : Type 0} {view : Row → Row} {tree : ℕ} (v : Row) (vs : List Row) (old new : State) → Left K book_schema view tree (v ∷ vs) old new → Left K book_schema view tree (vs ++ v ∷ []) old new
@@ -55,8 +55,8 @@ adds_policy old new p count c has h =
 -- a job's row as it is stored
 abbrev pub job_stored : Job → Row
 job_stored j =
-    number j.number ∷ Null ∷ Words j.owner ∷ Words j.name ∷ number j.copies ∷ number j.impressions ∷ number (flag_number j.hold) ∷ number (flag_number j.incoming) ∷ number (phase_number j.phase) ∷ number (why_number j.phase)
-    ∷ number (flag_number j.stopping) ∷ number j.count ∷ number j.created ∷ moment j.begun ∷ moment j.ended ∷ []
+    number j.number ∷ Null ∷ Words j.owner ∷ Words j.name ∷ number j.copies ∷ number j.impressions ∷ number (flag_number j.hold) ∷ number (flag_number j.incoming) ∷ number (phase_number j.phase) ∷ number (why_number j.phase j.stopping)
+    ∷ number (stopping_number j.phase j.stopping) ∷ number j.count ∷ number j.created ∷ moment j.begun ∷ moment j.ended ∷ []
 
 pub cast_job : (j : Job) → cast_row (table_of jobs) (job_stored j) ≡ job_stored j
 cast_job j = rw (
@@ -67,8 +67,8 @@ cast_job j = rw (
   cast_int (pos (flag_number j.hold)),
   cast_int (pos (flag_number j.incoming)),
   cast_int (pos (phase_number j.phase)),
-  cast_int (pos (why_number j.phase)),
-  cast_int (pos (flag_number j.stopping)),
+  cast_int (pos (why_number j.phase j.stopping)),
+  cast_int (pos (stopping_number j.phase j.stopping)),
   cast_int (pos j.count),
   cast_int (pos j.created),
   cast_moment j.begun,
@@ -132,3 +132,12 @@ adds_report old new k count c has h =
     let v = report_values k in
     holds_reports c _ old new has (last v c.reports old new (inserts_row book_schema insert_report_text 6 reports insert_report_terms 7 insert_report_is.command insert_report_is.plain refl (reports_still []) report_view c.reports
     old new v Null v v count has.schema refl (cast_report k) refl has.rows.reports h.0)) h.1.is_open
+
+pub cast_operator : (name : List ℕ) → cast_row (table_of operators) (Null ∷ operator_values name) ≡ Null ∷ operator_values name
+cast_operator name = rw cast_null refl
+
+pub adds_operator : (old new : State) (name : List ℕ) (count : ℕ) (c : Content) → Holds c old → ExecutesInside 0 insert_operator_text (operator_values name) old new (Ok count) → Holds (with_operator_row (operator_values name) c) new
+adds_operator old new name count c has h =
+    let v = operator_values name in
+    holds_operators c _ old new has (last v c.operators old new (inserts_row book_schema insert_operator_text 8 operators insert_operator_terms 2 insert_operator_is.command insert_operator_is.plain refl (operators_still []) operator_view c.operators
+    old new v Null v v count has.schema refl (cast_operator name) refl has.rows.operators h.0)) h.1.is_open

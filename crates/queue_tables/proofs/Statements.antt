@@ -11,7 +11,7 @@ use Rattle.sqlite_value.specs.Keys.{ascending as plain_key}
 use Rattle.sqlite_value.specs.declared.keys.Key.{Key}
 use Rattle.sqlite.specs.Source.TheVariants.{Values}
 use Rattle.sqlite.specs.Command.{Command}
-use Rattle.sqlite.specs.Command.TheVariants.{Insert, Update, Select}
+use Rattle.sqlite.specs.Command.TheVariants.{Delete, Insert, Update, Select}
 use Rattle.sqlite_resolve.specs.Compile.{first}
 use Rattle.sqlite_tied.specs.Compute.{everything}
 use Rattle.sqlite.specs.Listing.{understood, reads_listing}
@@ -100,6 +100,31 @@ insert_policy_terms = col 0 0 ∷ lit Null ∷ col 0 1 ∷ []
 pub insert_policy_is : Means insert_policy_text (Insert 7 (Values insert_policy_terms 3))
 unfolding understood everything
 insert_policy_is = record { command = refl; plain = (refl, refl) }
+
+-- ---- a new row of operators
+
+abbrev pub insert_operator_text : List ℕ
+insert_operator_text = codes "INSERT INTO operators (name) VALUES (?1)"
+
+abbrev pub insert_operator_terms : List Term
+insert_operator_terms = lit Null ∷ col 0 0 ∷ []
+
+pub insert_operator_is : Means insert_operator_text (Insert 8 (Values insert_operator_terms 2))
+unfolding understood everything
+insert_operator_is = record { command = refl; plain = (refl, refl) }
+
+-- ---- all rows of operators
+
+-- what a DELETE reads of the rows
+abbrev pub rowid_alone : List Term
+rowid_alone = col 1 0 ∷ []
+
+abbrev pub delete_operators_text : List ℕ
+delete_operators_text = codes "DELETE FROM operators"
+
+pub delete_operators_is : Means delete_operators_text (Delete 8 (record { lets = []; body = plain_query 17 [] rowid_alone [] }))
+unfolding understood everything
+delete_operators_is = record { command = refl; plain = (refl, refl) }
 
 -- ---- a new row of jobs
 
@@ -299,6 +324,10 @@ meta_still olds news = rw (no_action (length news == 0)) refl
 pub policy_still : (olds news : List Row) → works book_schema Enforced 0 15 olds news ≡ []
 unfolding everything
 policy_still olds news = rw (no_action (length news == 0)) refl
+
+pub operators_still : (olds news : List Row) → works book_schema Enforced 0 17 olds news ≡ []
+unfolding everything
+operators_still olds news = rw (no_action (length news == 0)) refl
 
 pub jobs_still : (olds news : List Row) → works book_schema Enforced 0 1 olds news ≡ []
 unfolding everything

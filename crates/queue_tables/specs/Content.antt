@@ -14,10 +14,10 @@ use Rattle.queue_core.specs.Sound.{IsSound, reserved, printed}
 use Rattle.queue_rows.specs.Documents.{documents_from}
 use Rattle.queue_rows.specs.Pieces.{pieces_in, piece_at}
 use Rattle.queue_rows.specs.Rows.{meta_row, grant_row}
-use Rattle.queue_rows.specs.Versions.{IsOf, Version, policy_row, first_version, second_version}
+use Rattle.queue_rows.specs.Versions.{IsOf, Version, policy_row, first_version, second_version, third_version}
 use Rattle.queue_tables.specs.Kept.{HasRows}
 use Rattle.queue_tables.specs.Tables.{book_schema, schema_of}
-use Rattle.queue_tables.specs.Values.{meta_values, meta_view, policy_values, policy_view, job_values, job_view, document_values, document_view, piece_values, piece_view, account_values, account_view, grant_values, grant_view, report_values, report_view}
+use Rattle.queue_tables.specs.Values.{kept_job_view, meta_values, meta_view, operator_values, operator_view, policy_values, policy_view, job_values, job_view, document_values, document_view, piece_values, piece_view, account_values, account_view, grant_values, grant_view, report_values, report_view}
 
 -- the values in the rows of each table
 pub record Content : Type 0 where
@@ -29,6 +29,7 @@ pub record Content : Type 0 where
   pub grants : List Row
   pub reports : List Row
   pub policy : List Row
+  pub operators : List Row
 
 -- the rows of a job's documents, which count from a number on
 abbrev pub document_rows : ℕ → ℕ → List Document → List Row
@@ -44,10 +45,10 @@ pieces_from job doc [] = []
 pieces_from job doc (d ∷ ds) = piece_rows job doc d.bytes ++ pieces_from job (doc + 1) ds
 
 -- the rows of a world: its settings with the next number, its jobs, their documents and those's pieces, its accounts with the
--- sums over their jobs, its grants and its reports, and for how long a held job is kept
+-- sums over their jobs, its grants and its reports, for how long a held job is kept, and its operators
 abbrev pub content_of : World → Content
 content_of w = record {
-  meta = meta_values (meta_row second_version w) ∷ [];
+  meta = meta_values (meta_row third_version w) ∷ [];
   jobs = map job_values (rows w);
   documents = flat_map (λ e. document_rows e.row.number 1 e.documents) w.jobs;
   pieces = flat_map (λ e. pieces_from e.row.number 1 e.documents) w.jobs;
@@ -55,6 +56,7 @@ content_of w = record {
   grants = map (λ g. grant_values (grant_row g)) (entries w.grants);
   reports = map (λ r. report_values r.1) (entries w.reports);
   policy = policy_values (policy_row w.settings.keep) ∷ [];
+  operators = map operator_values w.settings.operators;
 }
 
 -- with the number of that version
@@ -71,21 +73,33 @@ pub record HasContent (c : Content) (db : Trees) : Type 0 where
   pub grants : HasRows ⊥ grant_view c.grants (db 8)
   pub reports : HasRows ⊥ report_view c.reports (db 10)
   pub policy : HasRows ⊤ policy_view c.policy (db 15)
+  pub operators : HasRows ⊤ operator_view c.operators (db 17)
 
--- the same of the tables of the first version, which has no table policy
+-- the same of the tables of the first version, which has no table policy, and 0 in the column why of a job that its user stops
 pub record HasFirst (c : Content) (db : Trees) : Type 0 where
   pub meta : HasRows ⊤ meta_view c.meta (db 0)
-  pub jobs : HasRows ⊤ job_view c.jobs (db 1)
+  pub jobs : HasRows ⊤ kept_job_view c.jobs (db 1)
   pub documents : HasRows ⊥ document_view c.documents (db 2)
   pub pieces : HasRows ⊥ piece_view c.pieces (db 4)
   pub accounts : HasRows ⊤ account_view c.accounts (db 6)
   pub grants : HasRows ⊥ grant_view c.grants (db 8)
   pub reports : HasRows ⊥ report_view c.reports (db 10)
 
+-- of the second version, which has no table operators
+pub record HasSecond (c : Content) (db : Trees) : Type 0 where
+  pub first : HasFirst c db
+  pub policy : HasRows ⊤ policy_view c.policy (db 15)
+
+-- of the third version
+pub record HasThird (c : Content) (db : Trees) : Type 0 where
+  pub second : HasSecond c db
+  pub operators : HasRows ⊤ operator_view c.operators (db 17)
+
 -- the trees hold this queue in tables of that version
 abbrev pub HasQueueOf : Version → World → Trees → Type 0
 HasQueueOf first_version w db = HasFirst (numbered_content first_version w) db
-HasQueueOf second_version w db = HasContent (content_of w) db
+HasQueueOf second_version w db = HasSecond (numbered_content second_version w) db
+HasQueueOf third_version w db = HasThird (content_of w) db
 
 -- these trees list the tables and indexes of a book, of whatever version, and hold the rows of this sound queue
 pub record IsBookOf (w : World) (db : Trees) : Type 0 where

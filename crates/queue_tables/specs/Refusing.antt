@@ -20,6 +20,10 @@ pub record IsRefusedByKey (sql : List ℕ) (params : Row) (old new : State) : Ty
   pub not_rowid : rule ≢ PrimaryKey
   pub refused : ExecutesInside 0 sql params old new (Err (SqliteFailure (ConstraintViolation rule)))
 
+-- none refuses it, so that no answer is Damaged
+abbrev pub IsRefusedByNothing : List ℕ → Row → State → State → Type 0
+IsRefusedByNothing sql params old new = ⊥
+
 -- inside a transaction Damaged is told only where this holds; it says nothing once the disk has lied
 abbrev pub DamagedOnlyWhere : {T : Type 0} → State → State → Result T Fault → Type 0 → Type 0
 DamagedOnlyWhere old new result P = HasCleanDisk new → IsTrue old.in_transaction → IfErr result (λ e. e ≡ Damaged → P)

@@ -31,6 +31,12 @@ with_meta_row v c = record c { meta = c.meta ++ v ∷ [] }
 abbrev pub with_policy_row : Row → Content → Content
 with_policy_row v c = record c { policy = c.policy ++ v ∷ [] }
 
+abbrev pub with_operator_row : Row → Content → Content
+with_operator_row v c = record c { operators = c.operators ++ v ∷ [] }
+
+abbrev pub without_operators : Content → Content
+without_operators c = record c { operators = [] }
+
 abbrev pub with_job_row : Row → Content → Content
 with_job_row v c = record c { jobs = c.jobs ++ v ∷ [] }
 
@@ -148,6 +154,9 @@ with_grants gs w = record w { grants = fold put_grant w.grants gs }
 
 abbrev pub with_kept : Option KeptReport → World → World
 with_kept k w = record w { reports = with_report w.reports k }
+
+abbrev pub with_operators : List (List ℕ) → World → World
+with_operators operators w = record w { settings = record w.settings { operators = operators } }
 
 abbrev pub with_next : ℕ → World → World
 with_next n w = record w { next = n }

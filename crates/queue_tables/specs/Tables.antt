@@ -11,7 +11,7 @@ use Rattle.sqlite_schema.specs.declared.schema.Reference.{Reference}
 use Rattle.sqlite_schema.specs.declared.schema.Action.TheVariants.{NoAction}
 use Rattle.sqlite_schema.specs.declared.schema.Index.{Index}
 use Rattle.sqlite_value.specs.Keys.{plain}
-use Rattle.queue_rows.specs.Versions.{Version, first_version, second_version}
+use Rattle.queue_rows.specs.Versions.{Version, first_version, second_version, third_version}
 use Rattle.queue_tables.specs.Plain.{Plain, table_of}
 
 -- a column of a STRICT table, compared by its bytes
@@ -128,6 +128,19 @@ policy = record {
   references = [];
 }
 
+-- the callers who see every job and may cancel it
+abbrev pub operators : Plain
+operators = record {
+  name = codes "operators";
+  tree = 17;
+  columns = text (codes "name") ∷ [];
+  key = None;
+  primary = 1 ∷ [];
+  uniques = (1 ∷ []) ∷ [];
+  orders = plain ∷ [];
+  references = [];
+}
+
 -- the index that a key makes, on the next tree
 abbrev pub key_of : Plain → List ℕ → ℕ → List ℕ → Index
 key_of p name tree columns = record { name = name; tree = tree; table = p.tree; columns = columns; order = plain; is_unique = true }
@@ -148,6 +161,10 @@ by_phase = record { name = codes "jobs_by_phase"; tree = 14; table = 1; columns 
 abbrev pub by_age : Index
 by_age = record { name = codes "jobs_by_age"; tree = 16; table = 1; columns = 8 ∷ 12 ∷ []; order = plain; is_unique = false }
 
+-- the jobs of all by the moment of their end
+abbrev pub by_ended : Index
+by_ended = record { name = codes "jobs_by_ended"; tree = 19; table = 1; columns = 14 ∷ []; order = plain; is_unique = false }
+
 abbrev pub no_schema : Schema
 no_schema = record { tables = []; indexes = []; views = [] }
 
@@ -162,10 +179,18 @@ tables_alone = record {
 abbrev pub first_schema : Schema
 first_schema = record { tables = tables_alone.tables; indexes = tables_alone.indexes ++ by_owner ∷ by_end ∷ by_phase ∷ []; views = [] }
 
+abbrev pub second_schema : Schema
+second_schema = record { tables = first_schema.tables ++ table_of policy ∷ []; indexes = first_schema.indexes ++ by_age ∷ []; views = [] }
+
 -- as `create` makes it
 abbrev pub book_schema : Schema
-book_schema = record { tables = first_schema.tables ++ table_of policy ∷ []; indexes = first_schema.indexes ++ by_age ∷ []; views = [] }
+book_schema = record {
+  tables = second_schema.tables ++ table_of operators ∷ [];
+  indexes = second_schema.indexes ++ key_of operators (codes "sqlite_autoindex_operators_1") 18 (1 ∷ []) ∷ by_ended ∷ [];
+  views = [];
+}
 
 abbrev pub schema_of : Version → Schema
 schema_of first_version = first_schema
-schema_of second_version = book_schema
+schema_of second_version = second_schema
+schema_of third_version = book_schema

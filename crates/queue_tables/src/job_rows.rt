@@ -13,7 +13,7 @@ use crate::fault::Fault;
 use crate::read::read_job;
 use crate::run::{select_inside, write};
 use crate::with_job_columns;
-use queue_rows::codes::{phase_number_of, why_number_of};
+use queue_rows::codes::{phase_number_of, stopping_number_of, why_number_of};
 use queue_rows::laws::numbers_tell_names;
 use queue_types::job::Job;
 use sqlite::types::{ToSql, ValueRef};
@@ -33,8 +33,8 @@ fn columns_of(job: &Job) -> [ValueRef<'_>; 14]
         job.hold.to_sql(),
         job.incoming.to_sql(),
         phase_number_of(job.phase).to_sql(),
-        why_number_of(job.phase).to_sql(),
-        job.stopping.to_sql(),
+        why_number_of(job.phase, job.stopping).to_sql(),
+        stopping_number_of(job.phase, job.stopping).to_sql(),
         job.count.to_sql(),
         job.created.to_sql(),
         job.begun.to_sql(),

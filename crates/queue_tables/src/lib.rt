@@ -12,6 +12,8 @@ mod grant_rows;
 mod job_columns;
 mod job_rows;
 pub mod meta_rows;
+mod operator_rows;
+mod operators;
 mod pages;
 mod piece_rows;
 mod put;
@@ -21,6 +23,7 @@ mod run;
 pub mod select;
 mod transaction;
 
+pub use operators::set_operators;
 pub use transaction::make;
 
 /// The names of the tables that a book of each version has.
@@ -37,8 +40,11 @@ pub const FIRST_TABLES: [&[u8]; 7] = [
 /// The name of the table that the first version lacks.
 pub const POLICY: &[u8] = b"policy";
 
+/// The name of the table that the first two versions lack.
+pub const OPERATORS: &[u8] = b"operators";
+
 /// The names of the book's tables.
-pub const TABLES: [&[u8]; 8] = [
+pub const TABLES: [&[u8]; 9] = [
     b"meta",
     b"jobs",
     b"documents",
@@ -47,4 +53,5 @@ pub const TABLES: [&[u8]; 8] = [
     b"grants",
     b"reports",
     b"policy",
+    b"operators",
 ];

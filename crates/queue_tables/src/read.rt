@@ -9,9 +9,10 @@ ghost use Rattle.queue_types.specs.declared.document.Format.{Format as FormatVal
 ghost use Rattle.queue_types.specs.declared.event.Kind.{Kind as KindValue};
 ghost use Rattle.queue_types.specs.declared.job.Job.{Job as JobValue};
 ghost use Rattle.queue_types.specs.declared.job.Phase.{Phase as PhaseValue};
+ghost use Rattle.queue_types.specs.declared.job.Why.{Why as WhyValue};
 ghost use Rattle.queue_types.specs.declared.states.JobState.{JobState as StateValue};
 ghost use Rattle.queue_core.specs.Limits.{IsSoundJob};
-ghost use Rattle.queue_rows.specs.Codes.{job_state_number, kind_number, phase_number, why_number};
+ghost use Rattle.queue_rows.specs.Codes.{job_state_number, kind_number, phase_number, stopping_number, why_number};
 ghost use Rattle.queue_rows.specs.Jobs.{IsJobRow};
 ghost use Rattle.queue_tables.specs.Courses.{IsCourseIn};
 ghost use Rattle.queue_tables.specs.Forms.{IsFormedJob};
@@ -19,12 +20,12 @@ ghost use Rattle.queue_tables.specs.Steps.{bare};
 ghost use Rattle.queue_tables.specs.Values.{job_values, moment, number, truth};
 
 use crate::fault::{Fault, fault_of_value};
-use queue_rows::codes::{flag_of, job_state_of, kind_of, phase_of};
+use queue_rows::codes::{course_of, flag_of, job_state_of, kind_of};
 use queue_rows::jobs::is_job_row;
 use queue_rows::laws::numbers_tell_names;
 use queue_types::document::Format;
 use queue_types::event::Kind;
-use queue_types::job::{Job, Phase};
+use queue_types::job::{Job, Phase, Why};
 use queue_types::states::JobState;
 use queue_types::text::Text;
 use sqlite::Row;
@@ -66,15 +67,21 @@ pub fn flag(row: &Row, at: usize) -> Result<bool, Fault>
     flag_of(code).ok_or(Fault::Damaged)
 }
 
-/// The phase of two columns.
-pub fn phase(row: &Row, at: usize, why_at: usize) -> Result<Phase, Fault>
-    ensures ok { IfOk result (λ p. (column row.now at ≡ number (phase_number p)) × (column row.now why_at ≡ number (why_number p))) }
-    ensures err { IfErr result (λ e. e ≡ Fault.Damaged → at < length row.now → why_at < length row.now → (p : PhaseValue) → column row.now at ≡ number (phase_number p) → column row.now why_at ≢ number (why_number p)) }
+/// The phase of a job and who stops it, of the columns `phase`, `why` and `stopping`.
+fn phase_and_stopping(
+    row: &Row,
+    at: usize,
+    why_at: usize,
+    stopping_at: usize,
+) -> Result<(Phase, Option<Why>), Fault>
+    ensures ok { IfOk result (λ c. (column row.now at ≡ number (phase_number c.0)) × (column row.now why_at ≡ number (why_number c.0 c.1)) × (column row.now stopping_at ≡ number (stopping_number c.0 c.1))) }
+    ensures err { IfErr result (λ e. e ≡ Fault.Damaged → at < length row.now → why_at < length row.now → stopping_at < length row.now → (p : PhaseValue) (s : Option WhyValue) → column row.now at ≡ number (phase_number p) → column row.now why_at ≡ number (why_number p s) → column row.now stopping_at ≢ number (stopping_number p s)) }
     ensures never { IfErr result (λ e. e ≢ Fault.Disk) }
 {
     let code: i64 = value(row, at)?;
     let why: i64 = value(row, why_at)?;
-    phase_of(code, why).ok_or(Fault::Damaged)
+    let stopping: i64 = value(row, stopping_at)?;
+    course_of(code, why, stopping).ok_or(Fault::Damaged)
 }
 
 /// The kind of a report, by its number.
@@ -124,7 +131,7 @@ struct Course {
     hold: bool,
     incoming: bool,
     phase: Phase,
-    stopping: bool,
+    stopping: Option<Why>,
     count: u32,
     begun: Option<u32>,
     ended: Option<u32>,
@@ -136,11 +143,12 @@ fn read_course(row: &Row) -> Result<Course, Fault>
     ensures err { IfErr result (λ e. e ≡ Fault.Damaged → (j : JobValue) → IsFormedJob j → row.now ≢ job_values j) }
     ensures never { IfErr result (λ e. e ≢ Fault.Disk) }
 {
+    let (phase, stopping) = phase_and_stopping(row, 7, 8, 9)?;
     Ok(Course {
         hold: flag(row, 5)?,
         incoming: flag(row, 6)?,
-        phase: phase(row, 7, 8)?,
-        stopping: flag(row, 9)?,
+        phase,
+        stopping,
         count: value(row, 10)?,
         begun: moment_at(row, 12)?,
         ended: moment_at(row, 13)?,

@@ -6,7 +6,7 @@ ghost use Rattle.sqlite.specs.State.{HasCleanDisk};
 ghost use Rattle.sqlite.specs.Held.{state};
 ghost use Rattle.queue_tables.specs.Making.{Writes};
 ghost use Rattle.queue_tables.specs.Leaving.{StaysInside};
-ghost use Rattle.queue_tables.specs.Refusing.{DamagedOnlyWhere, IsRefused, IsRefusedByKey};
+ghost use Rattle.queue_tables.specs.Refusing.{DamagedOnlyWhere, IsRefused, IsRefusedByKey, IsRefusedByNothing};
 
 use crate::fault::{Fault, fault_of_insert, fault_of_write};
 use sqlite::types::ValueRef;
@@ -49,6 +49,19 @@ pub(crate) fn insert<S: Alter>(
     ensures wrote { Writes sql.now (bound params.now) (state S.Store tx.old.conn.now) (state S.Store tx.new.conn.now) result IsRefusedByKey }
 {
     tx.execute(sql, params).map_err(fault_of_insert)?;
+    Ok(())
+}
+
+/// Runs a statement that no constraint refuses, so that its error is told as one of a query. It commits nothing.
+pub(crate) fn write_unconstrained<S: Alter>(
+    tx: &mut Transaction<'_, S>,
+    sql: &str,
+    params: &[ValueRef<'_>],
+) -> Result<(), Fault>
+    ensures same_reference { tx.new.conn.ghost_name ≡ tx.old.conn.ghost_name }
+    ensures wrote { Writes sql.now (bound params.now) (state S.Store tx.old.conn.now) (state S.Store tx.new.conn.now) result IsRefusedByNothing }
+{
+    tx.execute(sql, params)?;
     Ok(())
 }
 

@@ -36,7 +36,8 @@ pub data Call : Type 0 where
   hold_job : ℕ → Call
   release_job : ℕ → Call
   get_job_attributes : ℕ → Call
-  get_jobs : WhichJobs → Option ℕ → Call
+  -- of that kind and no more than that many; whether an operator asks for its own jobs alone
+  get_jobs : WhichJobs → Option ℕ → Bool → Call
   get_printer_attributes : Call
 
 pub data Event : Type 0 where
@@ -80,7 +81,7 @@ call_of (HoldJob n) = hold_job n
 call_of (ReleaseJob n) = release_job n
 call_of (CancelJob n) = cancel_job n
 call_of (GetJobAttributes n) = get_job_attributes n
-call_of (GetJobs which limit) = get_jobs which limit
+call_of (GetJobs which limit mine) = get_jobs which limit mine
 call_of GetPrinterAttributes = get_printer_attributes
 
 -- the number of the one job that it is about
@@ -94,7 +95,7 @@ on_job (print_job new format payload) = None
 on_job (validate_job new) = None
 on_job (create_job new) = None
 on_job (cancel_my_jobs numbers) = None
-on_job (get_jobs which limit) = None
+on_job (get_jobs which limit mine) = None
 on_job get_printer_attributes = None
 
 abbrev pub event_of : EventRef → Event

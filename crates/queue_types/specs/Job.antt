@@ -1,12 +1,12 @@
 -- The state of a job and its reasons (RFC 8011, sections 5.3.7 and 5.3.8), and the pages that are set aside for it.
-use Rattle.std.specs.Prelude.{ℕ, ◌-◌, ◌*◌, Bool, true, false, ◌||◌, if◌then◌else◌, Some, None}
+use Rattle.std.specs.Prelude.{ℕ, ◌-◌, ◌*◌, Bool, true, false, ◌||◌, if◌then◌else◌, Some, None, is_some}
 use Rattle.queue_types.specs.States.{job_state_number}
 use Rattle.queue_types.specs.declared.job.Job.{Job}
-use Rattle.queue_types.specs.declared.job.Why.TheVariants.{ByUser, AtDevice}
+use Rattle.queue_types.specs.declared.job.Why.TheVariants.{ByUser, AtDevice, ByOperator}
 use Rattle.queue_types.specs.declared.job.Phase.{Phase}
 use Rattle.queue_types.specs.declared.job.Phase.TheVariants.{Waiting, Running, Stopped, Canceled, Aborted, Completed}
 use Rattle.queue_types.specs.declared.job.Reason.{Reason}
-use Rattle.queue_types.specs.declared.job.Reason.TheVariants.{NoReason, JobIncoming, JobHoldUntilSpecified, JobPrinting, PrinterStopped, ProcessingToStopPoint, JobCanceledByUser, JobCanceledAtDevice, AbortedBySystem, JobCompletedSuccessfully}
+use Rattle.queue_types.specs.declared.job.Reason.TheVariants.{NoReason, JobIncoming, JobHoldUntilSpecified, JobPrinting, PrinterStopped, ProcessingToStopPoint, JobCanceledByUser, JobCanceledAtDevice, JobCanceledByOperator, AbortedBySystem, JobCompletedSuccessfully}
 use Rattle.queue_types.specs.declared.job.Reasons.{Reasons}
 use Rattle.queue_types.specs.declared.states.JobState.{JobState}
 use Rattle.queue_types.specs.declared.states.JobState.TheVariants.{Pending, PendingHeld, Processing, ProcessingStopped, Canceled as CanceledState, Aborted as AbortedState, Completed as CompletedState}
@@ -38,10 +38,11 @@ two_reasons r s applies = record { first = r; second = if applies then Some s el
 
 abbrev pub reasons_in : Phase → Job → Reasons
 reasons_in Waiting j = if j.incoming then two_reasons JobIncoming JobHoldUntilSpecified j.hold else (if j.hold then one_reason JobHoldUntilSpecified else one_reason NoReason)
-reasons_in Running j = two_reasons JobPrinting ProcessingToStopPoint j.stopping
-reasons_in Stopped j = two_reasons PrinterStopped ProcessingToStopPoint j.stopping
+reasons_in Running j = two_reasons JobPrinting ProcessingToStopPoint (is_some j.stopping)
+reasons_in Stopped j = two_reasons PrinterStopped ProcessingToStopPoint (is_some j.stopping)
 reasons_in (Canceled ByUser) j = one_reason JobCanceledByUser
 reasons_in (Canceled AtDevice) j = one_reason JobCanceledAtDevice
+reasons_in (Canceled ByOperator) j = one_reason JobCanceledByOperator
 reasons_in Aborted j = one_reason AbortedBySystem
 reasons_in Completed j = one_reason JobCompletedSuccessfully
 

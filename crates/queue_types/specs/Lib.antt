@@ -1,4 +1,6 @@
 pub mod Text
+pub mod Names
+pub mod Operators
 pub mod Uri
 pub mod Settings
 pub mod States

@@ -2,6 +2,7 @@
 use Rattle.std.specs.Prelude.{ℕ, ℤ, ◌≤◌, ◌≡◌, ◌==◌, ◌&&◌, ◌||◌, List, length, Bool, true, nat_le, not, bytes_eq}
 use Rattle.std.specs.List.{list_all}
 use Rattle.std.specs.Str.{IsUtf8, byte}
+use Rattle.queue_types.specs.Operators.{AreOperators}
 use Rattle.queue_types.specs.Uri.{path_of, printer_path}
 
 pub record SettingValues : Type 0 where
@@ -14,6 +15,8 @@ pub record SettingValues : Type 0 where
   pub epoch : ℤ
   -- the seconds for which a held or open job is kept; 0 keeps it without end
   pub keep : ℕ
+  -- the callers who see every job and may cancel it, in the order of their bytes
+  pub operators : List (List ℕ)
 
 -- a printable character of ASCII that begins neither a query nor a fragment
 abbrev pub is_uri_byte : ℕ → Bool
@@ -29,3 +32,4 @@ pub record AreSettings (s : SettingValues) : Type 0 where
   pub name_utf8 : IsUtf8 s.name
   pub estimate_fits : s.estimate ≤ 100000
   pub keep_fits : s.keep ≤ 2147483647
+  pub operators_fit : AreOperators s.operators

@@ -59,7 +59,8 @@ pub enum Call<'a> {
         payload: &'a [u8],
         last: bool,
     },
-    /// The job of that number is canceled, or marked as stopping while the device has it.
+    /// The job of that number is canceled, or marked as stopping while the device has it. An operator cancels any job, and
+    /// anybody else only its own.
     CancelJob {
         job: u32,
     },
@@ -76,15 +77,17 @@ pub enum Call<'a> {
     ReleaseJob {
         job: u32,
     },
-    /// The job of that number is shown.
+    /// The job of that number is shown: to an operator any job, and to anybody else only its own.
     GetJobAttributes {
         job: u32,
     },
-    /// The caller's jobs are shown: those that are not completed, or those that are, and no more than
-    /// the limit.
+    /// Jobs are shown: those that are not completed, or those that are, and no more than the limit. They are the caller's,
+    /// and for an operator those of all callers unless it asks for its own alone.
     GetJobs {
         which: WhichJobs,
         limit: Option<u32>,
+        /// The attribute my-jobs, which says nothing to callers other than operators (RFC 8011, section 4.2.6.1).
+        mine: bool,
     },
     /// The printer is shown.
     GetPrinterAttributes,
@@ -322,7 +325,7 @@ pub struct QueueCounts {
 pub struct Scene {
     pub settings: Settings,
     pub jobs: JobList,
-    /// The owner's for a report, and the caller's for Cancel-Job, Cancel-My-Jobs, Hold-Job and Release-Job, by which pages
+    /// The owner's for a report and for Cancel-Job, and the caller's for Cancel-My-Jobs, Hold-Job and Release-Job, by which pages
     /// may be set aside or come back; and else empty.
     pub free: FreeList,
     /// Counted for Print-Job, Validate-Job and Create-Job, and else 0.

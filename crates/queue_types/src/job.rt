@@ -21,8 +21,12 @@ use std::alloc::{AllocError, Global};
 /// Who canceled a job.
 #[derive(Clone, Copy, Debug, PartialEq, Eq)]
 pub enum Why {
+    /// Its owner.
     ByUser,
+    /// The device, unasked.
     AtDevice,
+    /// An operator, of another's job.
+    ByOperator,
 }
 
 /// Where a job is on its way. A waiting job is in state 4 while it is held or still takes documents,
@@ -49,6 +53,7 @@ pub enum Reason {
     ProcessingToStopPoint,
     JobCanceledByUser,
     JobCanceledAtDevice,
+    JobCanceledByOperator,
     AbortedBySystem,
     JobCompletedSuccessfully,
 }
@@ -78,8 +83,8 @@ pub struct Job {
     /// More documents may come.
     pub incoming: bool,
     pub phase: Phase,
-    /// A cancel was asked while the device has the job.
-    pub stopping: bool,
+    /// Who asked to cancel the job while the device has it: its owner or an operator.
+    pub stopping: Option<Why>,
     /// Pages that the device has reported, 0 to 100,000,000.
     pub count: u32,
     /// The moment when it came, in seconds of printer up time, 1 to 2,147,483,647.
@@ -166,18 +171,19 @@ impl Job {
                 with_second(
                     Reason::JobPrinting,
                     Reason::ProcessingToStopPoint,
-                    self.stopping,
+                    self.stopping.is_some(),
                 )
             }
             Phase::Stopped => {
                 with_second(
                     Reason::PrinterStopped,
                     Reason::ProcessingToStopPoint,
-                    self.stopping,
+                    self.stopping.is_some(),
                 )
             }
             Phase::Canceled(Why::ByUser) => only(Reason::JobCanceledByUser),
             Phase::Canceled(Why::AtDevice) => only(Reason::JobCanceledAtDevice),
+            Phase::Canceled(Why::ByOperator) => only(Reason::JobCanceledByOperator),
             Phase::Aborted => only(Reason::AbortedBySystem),
             Phase::Completed => only(Reason::JobCompletedSuccessfully),
         }

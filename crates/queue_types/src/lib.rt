@@ -7,6 +7,8 @@ pub mod event;
 pub mod job;
 pub mod limits;
 pub mod list;
+pub mod names;
+pub mod operators;
 pub mod settings;
 pub mod sheet;
 pub mod states;

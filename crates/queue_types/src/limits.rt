@@ -33,6 +33,9 @@ pub const MOST_NAME_OCTETS: usize = 255;
 /// The most octets of a batch's name.
 pub const MOST_BATCH_OCTETS: usize = 40;
 
+/// The most operators.
+pub const MOST_OPERATORS: usize = 16;
+
 /// The most jobs in states 3 to 6 that one caller may have.
 pub const MOST_LIVE_JOBS: usize = 100;
 

@@ -5,6 +5,7 @@ ghost use Rattle.queue_types.specs.Settings.{AreSettings, is_uri_byte};
 ghost use Rattle.queue_types.specs.Uri.{printer_path};
 
 use crate::limits::{MOST_IMPRESSIONS, MOST_KEEP};
+use crate::operators::OperatorNames;
 use crate::text::Text;
 use crate::uri::{PRINTER_PATH, path};
 use std::alloc::{AllocError, Global};
@@ -36,6 +37,7 @@ pub struct Settings {
     estimate: u32,
     epoch: i64,
     keep: u32,
+    operators: OperatorNames,
 }
 
 impl Model for Settings {
@@ -43,9 +45,9 @@ impl Model for Settings {
 
     ghost Value = { SettingValues };
 
-    ghost view = { λ s. record { uri = s.uri; name = s.name; estimate = s.estimate; epoch = s.epoch; keep = s.keep } };
+    ghost view = { λ s. record { uri = s.uri; name = s.name; estimate = s.estimate; epoch = s.epoch; keep = s.keep; operators = s.operators } };
 
-    ghost invariant = { λ s. AreSettings (record { uri = s.uri; name = s.name; estimate = s.estimate; epoch = s.epoch; keep = s.keep }) };
+    ghost invariant = { λ s. AreSettings (record { uri = s.uri; name = s.name; estimate = s.estimate; epoch = s.epoch; keep = s.keep; operators = s.operators }) };
 }
 
 fn has_uri_bytes(uri: &[u8]) -> bool
@@ -67,7 +69,7 @@ impl Settings {
     /// Settings of these values: a URI of 1 to 255 printable ASCII characters (0x20 to 0x7e) with the path `/ipp/print`,
     /// without query and fragment; a name of 1 to 127 octets; an estimate of 0 to 100,000 pages; the
     /// epoch in seconds since 1970; 0 to 2,147,483,647 seconds for which a held or open job is kept, where
-    /// 0 keeps it without end.
+    /// 0 keeps it without end; and the operators.
     pub fn new(
         alloc: Global,
         uri: &str,
@@ -75,11 +77,13 @@ impl Settings {
         estimate: u32,
         epoch: i64,
         keep: u32,
+        operators: OperatorNames,
     ) -> Result<Settings, SettingFault>
-        ensures ok { IfOk result (λ s. s ≡ record { uri = uri.now; name = name.now; estimate = estimate; epoch = epoch; keep = keep }) }
-        ensures fits { IsOk result → AreSettings (record { uri = uri.now; name = name.now; estimate = estimate; epoch = epoch; keep = keep }) }
-        ensures bad { (result ≡ Err SettingFault.Bad) ↔ (¬ AreSettings (record { uri = uri.now; name = name.now; estimate = estimate; epoch = epoch; keep = keep })) }
+        ensures ok { IfOk result (λ s. s ≡ record { uri = uri.now; name = name.now; estimate = estimate; epoch = epoch; keep = keep; operators = operators }) }
+        ensures fits { IsOk result → AreSettings (record { uri = uri.now; name = name.now; estimate = estimate; epoch = epoch; keep = keep; operators = operators }) }
+        ensures bad { (result ≡ Err SettingFault.Bad) ↔ (¬ AreSettings (record { uri = uri.now; name = name.now; estimate = estimate; epoch = epoch; keep = keep; operators = operators })) }
     {
+        let _number_of_operators = operators.len();
         let uri_fits = !uri.is_empty()
             && uri.len() <= MOST_PRINTER_URI_OCTETS
             && has_uri_bytes(uri.as_bytes());
@@ -104,6 +108,7 @@ impl Settings {
             estimate,
             epoch,
             keep,
+            operators,
         })
     }
 
@@ -147,6 +152,24 @@ impl Settings {
         self.keep
     }
 
+    /// The callers who see every job and may cancel it.
+    pub fn operators(&self) -> &OperatorNames
+        ensures operators { result.now ≡ self.now.operators }
+        ensures limits { AreSettings self.now }
+    {
+        &self.operators
+    }
+
+    /// The same settings with these operators. The one error is want of memory.
+    pub fn with_operators(&self, operators: OperatorNames) -> Result<Settings, AllocError>
+        ensures same { IfOk result (λ s. s ≡ record self.now { operators = operators }) }
+        ensures limits { IfOk result AreSettings }
+    {
+        let mut settings = self.try_clone()?;
+        settings.operators = operators;
+        Ok(settings)
+    }
+
     /// A copy. The one error is want of memory.
     pub fn try_clone(&self) -> Result<Settings, AllocError>
         ensures same { IfOk result (λ s. s ≡ self.now) }
@@ -158,6 +181,7 @@ impl Settings {
             estimate,
             epoch,
             keep,
+            operators,
         } = self;
         Ok(Settings {
             uri: uri.try_clone()?,
@@ -165,6 +189,7 @@ impl Settings {
             estimate: *estimate,
             epoch: *epoch,
             keep: *keep,
+            operators: operators.try_clone()?,
         })
     }
 }

@@ -13,7 +13,7 @@ use Rattle.replay.specs.declared.request_line.RequestLine.TheVariants.{Now, Ipp,
 
 -- what the printer of a replay is set up with
 abbrev pub settings : SettingValues
-settings = record { uri = codes "ipp://localhost/ipp/print"; name = codes "release"; estimate = 20; epoch = pos 0; keep = 3600 }
+settings = record { uri = codes "ipp://localhost/ipp/print"; name = codes "release"; estimate = 20; epoch = pos 0; keep = 3600; operators = codes "opal" ∷ [] }
 
 -- a replay over this queue begins at moment 1
 abbrev pub first : World → State

@@ -20,6 +20,8 @@ pub(crate) enum StepFault {
     Memory,
     /// The printer's settings are not within their limits.
     Settings,
+    /// The book can't set operators.
+    NoOperators,
     /// A request is too long, or too short to be one.
     Request,
     /// There is no such document.

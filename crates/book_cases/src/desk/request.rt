@@ -51,23 +51,36 @@ pub(crate) enum JobsWanted {
     Ended,
     /// The first so many of those that ended.
     FirstEnded(u32),
+    /// The caller's own that did not end: `my-jobs` is true.
+    OwnLive,
+    /// The first so many of the caller's own that ended.
+    FirstOwnEnded(u32),
 }
 
 impl JobsWanted {
     /// The value of `which-jobs`.
     fn which(self) -> &'static str {
         match self {
-            JobsWanted::Live | JobsWanted::FirstLive(_) => "not-completed",
-            JobsWanted::Ended | JobsWanted::FirstEnded(_) => "completed",
+            JobsWanted::Live | JobsWanted::FirstLive(_) | JobsWanted::OwnLive => "not-completed",
+            JobsWanted::Ended | JobsWanted::FirstEnded(_) | JobsWanted::FirstOwnEnded(_) => {
+                "completed"
+            }
         }
     }
 
     /// The value of `limit`.
     fn limit(self) -> Option<u32> {
         match self {
-            JobsWanted::Live | JobsWanted::Ended => None,
-            JobsWanted::FirstLive(count) | JobsWanted::FirstEnded(count) => Some(count),
+            JobsWanted::Live | JobsWanted::Ended | JobsWanted::OwnLive => None,
+            JobsWanted::FirstLive(count)
+            | JobsWanted::FirstEnded(count)
+            | JobsWanted::FirstOwnEnded(count) => Some(count),
         }
+    }
+
+    /// The caller asks for its own jobs alone.
+    fn is_own(self) -> bool {
+        matches!(self, JobsWanted::OwnLive | JobsWanted::FirstOwnEnded(_))
     }
 }
 
@@ -175,9 +188,19 @@ fn put_size(bytes: &mut Vec<u8>, impressions: u32, copies: u32) -> Result<(), Al
 fn put_wanted(bytes: &mut Vec<u8>, wanted: JobsWanted) -> Result<(), AllocError> {
     put(bytes, 0x44, "requested-attributes", b"job-id")?;
     put(bytes, 0x44, "which-jobs", wanted.which().as_bytes())?;
+    put_own_jobs(bytes, wanted.is_own())?;
     match wanted.limit() {
         Some(count) => put(bytes, 0x21, "limit", &count.to_be_bytes()),
         None => Ok(()),
+    }
+}
+
+/// Adds that the caller's own jobs alone are wanted, if they are.
+fn put_own_jobs(bytes: &mut Vec<u8>, is_own: bool) -> Result<(), AllocError> {
+    if is_own {
+        put(bytes, 0x22, "my-jobs", b"\x01")
+    } else {
+        Ok(())
     }
 }
 

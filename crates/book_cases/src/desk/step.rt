@@ -21,6 +21,8 @@ pub(crate) enum Step<'a> {
     Dev(&'a str, &'a str),
     /// A sweep, and how many jobs it ends.
     Expire(u32),
+    /// The operators are set to these. Books in lists can't do that.
+    Operators(&'a [&'a str]),
     /// A caller's request, and the status code of the reply.
     Ask(&'a str, Request<'a>, u16),
     /// A caller's request so many times, and the status code of each reply.
@@ -63,6 +65,7 @@ impl Step<'_> {
             | Step::File(..)
             | Step::Dev(..)
             | Step::Expire(_)
+            | Step::Operators(_)
             | Step::Ask(..)
             | Step::AskTimes(..) => false,
         }

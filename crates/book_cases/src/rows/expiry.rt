@@ -12,6 +12,7 @@ use crate::desk::step::Step::{
 };
 use crate::shelves::books::{Case, take_cases};
 use crate::shelves::kinds::{Adopted, InLists, InTables};
+use queue_types::operators::OperatorNames;
 use queue_types::settings::Settings;
 use std::alloc::Global;
 use std::test::Fail;
@@ -167,7 +168,15 @@ const KEPT: [(u32, u32); 4] = [(0, 0), (1, 1), (2_147_483_646, 1), (2_147_483_64
 
 /// A sweep at the last moment ends this number of jobs in each book, in which a job was made at the first.
 fn keep_for(alloc: Global, keep: u32, ended: u32) -> Result<(), StepFault> {
-    let settings = Settings::new(alloc, "ipp://localhost/ipp/print", "release", 20, 0, keep)?;
+    let settings = Settings::new(
+        alloc,
+        "ipp://localhost/ipp/print",
+        "release",
+        20,
+        0,
+        keep,
+        OperatorNames::none(alloc),
+    )?;
     let mut desk = Desk::of(alloc, settings, 1);
     let steps = [
         Now(1),

@@ -2,14 +2,15 @@
 //! copied again and again and few pages are kept.
 
 use crate::desk::fault::RowFault;
+use crate::desk::request::JobsWanted::{Ended, Live};
 use crate::desk::request::Request;
 use crate::desk::request::Request::{Cancel, Create, Hold, Print, Release, Send};
 use crate::desk::shelf::take_row;
 use crate::desk::step::Step;
 use crate::desk::step::Step::{
-    Ask, Dev, Document, Expire, Fetch, Grant, Look, NoSheet, Now, Queue, Sheet,
+    Ask, Dev, Document, Expire, Fetch, Grant, Jobs, Look, NoSheet, Now, Operators, Queue, Sheet,
 };
-use crate::shelves::older::{FIRST_QUEUE, FIRST_ROWS, FIRST_TABLES};
+use crate::shelves::older::{FIRST_QUEUE, FIRST_ROWS, FIRST_TABLES, TO_SECOND};
 use crate::shelves::stops::Stopping;
 use std::alloc::Global;
 
@@ -250,6 +251,74 @@ fn jobs_that_expire(rt: HostRuntime) -> Result<(), RowFault> {
         Queue(""),
     ];
     stop(rt.alloc(), FIRST, STEPS, LAST)
+}
+
+#[test]
+fn jobs_that_an_operator_cancels(rt: HostRuntime) -> Result<(), RowFault> {
+    const FIRST: &[Step<'static>] = &[
+        Grant(b"f24,alice,60\n", Ok((1, 0))),
+        Ask("alice", Print, 0x0000),
+        Ask("alice", Print, 0x0000),
+        Ask("alice", Release(1), 0x0000),
+        Ask("alice", Release(2), 0x0000),
+        Dev("1 1 start 0", "ok 1 5 0"),
+    ];
+    const STEPS: &[Step<'static>] = &[
+        Sheet("alice", (60, 20, 40, 0)),
+        Ask("opal", Cancel(2), 0x0000),
+        Sheet("alice", (60, 40, 20, 0)),
+        Ask("opal", Cancel(1), 0x0000),
+        Look("opal", 1, 5, &["job-printing", "processing-to-stop-point"]),
+        Ask("alice", Cancel(1), 0x0404),
+        Jobs("opal", Live, &[1]),
+        Dev("1 2 halt 3", "ok 1 7 3"),
+        Jobs("opal", Ended, &[2, 1]),
+    ];
+    const LAST: &[Step<'static>] = &[
+        Sheet("alice", (60, 57, 0, 3)),
+        Look("alice", 1, 7, &["job-canceled-by-operator"]),
+        Look("opal", 2, 7, &["job-canceled-by-operator"]),
+        Queue(""),
+    ];
+    stop(rt.alloc(), FIRST, STEPS, LAST)
+}
+
+#[test]
+fn operators_that_are_set(rt: HostRuntime) -> Result<(), RowFault> {
+    const FIRST: &[Step<'static>] = &[Ask("alice", Print, 0x0000)];
+    const STEPS: &[Step<'static>] = &[
+        Jobs("pearl", Live, &[]),
+        Operators(&["pearl"]),
+        Jobs("pearl", Live, &[1]),
+        Operators(&["opal", "quartz", "pearl"]),
+        Jobs("quartz", Live, &[1]),
+        Operators(&[]),
+        Jobs("pearl", Live, &[]),
+        Operators(&["quartz"]),
+    ];
+    const LAST: &[Step<'static>] = &[
+        Jobs("opal", Live, &[]),
+        Jobs("pearl", Live, &[]),
+        Jobs("quartz", Live, &[1]),
+        Look("alice", 1, 4, &["job-hold-until-specified"]),
+    ];
+    stop(rt.alloc(), FIRST, STEPS, LAST)
+}
+
+#[test]
+fn tables_of_the_second_schema(rt: HostRuntime) -> Result<(), RowFault> {
+    const STEPS: &[Step<'static>] = &[
+        Sheet("alice", (30, 5, 0, 25)),
+        Operators(&["opal"]),
+        Jobs("opal", Live, &[4, 5, 2, 3, 7]),
+    ];
+    stop_over(
+        rt.alloc(),
+        &[FIRST_TABLES, FIRST_ROWS, TO_SECOND],
+        &[],
+        STEPS,
+        FIRST_QUEUE,
+    )
 }
 
 #[test]

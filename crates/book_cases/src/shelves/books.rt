@@ -8,15 +8,15 @@ use std::alloc::Global;
 use std::io;
 use std::test::Fail;
 
-/// Takes the first steps and then those of a row, over lists and over tables in memory.
+/// Takes the first steps and then those of a row, over tables in memory.
 fn take_in_memory(
     alloc: Global,
     row: usize,
     first: &[Step<'_>],
     steps: &[Step<'_>],
 ) -> Result<(), RowFault> {
-    take_row(alloc, &InLists, row, first, steps)?;
-    take_row(alloc, &InTables, row, first, steps)
+    take_row(alloc, &InTables, row, first, steps)?;
+    take_row(alloc, &Adopted, row, first, steps)
 }
 
 /// Rows of steps, each of which begins with the same first ones in an empty queue of its own.
@@ -30,24 +30,31 @@ pub(crate) struct Case<'a> {
 
 /// Takes cases over all books, with a folder of that name for their files.
 pub(crate) fn take_cases(rt: &HostRuntime, folder: &str, cases: &[Case<'_>]) -> Result<(), Fail> {
-    let books = TestBooks::new(rt, folder)?;
-    for case in cases {
-        books.take_case(case)?;
-    }
-    Ok(())
+    TestBooks::new(rt, folder, true)?.take_cases(cases)
+}
+
+/// Takes cases over all books but lists, with a folder of that name for their files.
+pub(crate) fn take_cases_in_tables(
+    rt: &HostRuntime,
+    folder: &str,
+    cases: &[Case<'_>],
+) -> Result<(), Fail> {
+    TestBooks::new(rt, folder, false)?.take_cases(cases)
 }
 
 /// All books of a test, with a folder of its own for its files.
 #[derive(Drop)]
 struct TestBooks<'a> {
+    has_lists: bool,
     in_file: InFile<InFolder<'a>>,
 }
 
 impl<'a> TestBooks<'a> {
-    /// The books of a test, whose folder has this name, beside that of the process.
-    fn new(rt: &'a HostRuntime, name: &str) -> io::Result<TestBooks<'a>> {
+    /// The books of a test, among them one in lists or not, whose folder has this name, beside that of the process.
+    fn new(rt: &'a HostRuntime, name: &str, has_lists: bool) -> io::Result<TestBooks<'a>> {
         let files = InFolder::new(rt, name)?;
         Ok(TestBooks {
+            has_lists,
             in_file: InFile { files },
         })
     }
@@ -72,8 +79,10 @@ impl<'a> TestBooks<'a> {
     /// Takes the first steps and then those of a row, over each book.
     fn take_row(&self, row: usize, first: &[Step<'_>], steps: &[Step<'_>]) -> Result<(), RowFault> {
         let alloc = self.alloc();
+        if self.has_lists {
+            take_row(alloc, &InLists, row, first, steps)?;
+        }
         take_in_memory(alloc, row, first, steps)?;
-        take_row(alloc, &Adopted, row, first, steps)?;
         self.take_in_file(row, first, steps)
     }
 
@@ -91,5 +100,13 @@ impl<'a> TestBooks<'a> {
             Ok(()) => Ok(()),
             Err(fault) => Err(Fail::new(format_args!("{}: {fault:?}", case.name))),
         }
+    }
+
+    /// Takes cases over each book.
+    fn take_cases(&self, cases: &[Case<'_>]) -> Result<(), Fail> {
+        for case in cases {
+            self.take_case(case)?;
+        }
+        Ok(())
     }
 }

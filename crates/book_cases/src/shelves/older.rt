@@ -1,4 +1,5 @@
-//! A queue in the tables of the first schema, which has no time for which jobs are kept.
+//! A queue in the tables of the first schema, which has no time for which jobs are kept, and of the second, which has no operators. Neither tells who asked
+//! to stop a job.
 
 use crate::desk::request::JobsWanted::{Ended, Live};
 use crate::desk::step::Step;
@@ -60,6 +61,13 @@ pub(crate) const FIRST_ROWS: &str = "\
     (1, 3, 5, 25, 9, 25), \
     (4, 1, 1, 0, 5, 0), \
     (4, 2, 4, 4, 5, 4);";
+
+/// The statements that make these tables those of the second schema. Jobs are kept for an hour.
+pub(crate) const TO_SECOND: &str = "\
+    CREATE TABLE policy (one INTEGER PRIMARY KEY, keep INTEGER NOT NULL) STRICT;\
+    CREATE INDEX jobs_by_age ON jobs (phase, created);\
+    INSERT INTO policy VALUES (1, 3600);\
+    UPDATE meta SET schema = 2;";
 
 /// Looks at the queue, and a line of the device and an account file that it has taken before.
 pub(crate) static FIRST_QUEUE: &[Step<'static>] = &[

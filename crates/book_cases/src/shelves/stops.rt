@@ -66,6 +66,11 @@ fn are_looked_at(steps: &[Step<'_>]) -> bool {
     true
 }
 
+/// The steps from one on.
+fn from<'a>(steps: &'a [Step<'a>], at: usize) -> &'a [Step<'a>] {
+    &steps[at.min(steps.len())..]
+}
+
 /// A new book where settings of it are given, and else the one that the tables hold.
 fn source_of<B, C>(conn: C, settings: Option<Settings>) -> Source<B, C> {
     match settings {
@@ -102,7 +107,7 @@ fn has_stopped(ended: End, is_spent: bool) -> Result<bool, StepFault> {
 /// the steps come to no further one. A book without first steps and statements is made on that disk, another is opened on it behind
 /// them. The step that meets the stop, and the look behind it, tell a fault, or what is right. What is left then is
 /// opened again, as it was written (as by a program that is killed) and as it was synced (as by a machine without
-/// power), and goes on from the step that met the stop or from the one behind it.
+/// power), and goes on from the look before the step that met the stop or from the step behind it.
 #[derive(Clone, Copy)]
 pub(crate) struct Stopping<'a> {
     /// Statements that make the tables of the files in place of first steps; none if a book makes them.
@@ -172,21 +177,28 @@ impl Stopping<'_> {
         Ok((ended?, files))
     }
 
-    /// A stop left the book as it was before the first of the steps, or as that step makes it.
+    /// A stop left the book as it was before a step, or as that step makes it. What it was is told by the look before a step that changes it.
     fn compare_left(
         self,
         desk: &mut Desk,
         left: Left<'_>,
         place: Place,
         steps: &[Step<'_>],
+        at: usize,
     ) -> Result<(), StepFault> {
-        let before = self.go_on(desk, left, place, steps);
-        match steps {
-            [step, behind @ ..] if before.is_err() && !step.only_looks() => {
-                self.go_on(desk, left, place.next(), behind)
-            }
-            _ => before,
+        if !matches!(steps.get(at), Some(step) if !step.only_looks()) {
+            return self.go_on(desk, left, place, from(steps, at));
         }
+        let before = self.go_on(
+            desk,
+            left,
+            place.before(),
+            from(steps, at.saturating_sub(1)),
+        );
+        if before.is_ok() {
+            return before;
+        }
+        self.go_on(desk, left, place.next(), from(steps, at.saturating_add(1)))
     }
 
     /// What is left of files that stopped behind some of the steps is well.
@@ -199,21 +211,21 @@ impl Stopping<'_> {
     ) -> Result<(), StepFault> {
         let remains = Remains::of(desk.alloc(), files)?;
         let place = desk.place();
-        let rest = steps.get(place.behind(begun)..).unwrap_or(&[]);
-        self.compare_remains(desk, &remains, place, rest)
+        self.compare_remains(desk, &remains, place, steps, place.behind(begun))
     }
 
-    /// What a stop left is well, however much of it was synced.
+    /// What a stop at a step left is well, however much of it was synced.
     fn compare_remains(
         self,
         desk: &mut Desk,
         remains: &Remains,
         place: Place,
         steps: &[Step<'_>],
+        at: usize,
     ) -> Result<(), StepFault> {
         for left in remains.each() {
             if let Some(left) = left {
-                self.compare_left(desk, left, place, steps)?;
+                self.compare_left(desk, left, place, steps, at)?;
             }
         }
         Ok(())

@@ -1,9 +1,10 @@
 //! Steps over the book of a store, until one meets the stop of its disk, if any does.
 
 use crate::desk::Desk;
+use crate::desk::book::StepBook;
 use crate::desk::fault::StepFault;
 use crate::desk::step::Step;
-use queue_core::{BookFault, QueueBook};
+use queue_core::BookFault;
 use queue_store::TableBook;
 use queue_types::settings::Settings;
 use sqlite::{Alter, Connection, Error, ErrorCode, FileStore, Files};
@@ -94,7 +95,7 @@ fn look_at<'a>(steps: &[Step<'a>], at: usize) -> Option<Step<'a>> {
 }
 
 /// Looks once more at a book where a step has met the stop.
-fn look_again<B: QueueBook>(
+fn look_again<B: StepBook>(
     desk: &mut Desk,
     book: &mut B,
     look: Step<'_>,
@@ -109,7 +110,7 @@ fn look_again<B: QueueBook>(
 }
 
 /// Takes steps and then others over a book until one meets the stop.
-fn take_to_stop<B: QueueBook>(
+fn take_to_stop<B: StepBook>(
     desk: &mut Desk,
     book: &mut B,
     steps: &[Step<'_>],
@@ -127,7 +128,7 @@ fn take_to_stop<B: QueueBook>(
 }
 
 /// Takes steps and then others.
-pub(super) fn take_both<B: QueueBook>(
+pub(super) fn take_both<B: StepBook>(
     desk: &mut Desk,
     book: &mut B,
     steps: &[Step<'_>],

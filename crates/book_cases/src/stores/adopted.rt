@@ -1,5 +1,6 @@
 //! Books that are made, closed and adopted again.
 
+use crate::desk::operators::{are_named, operators_of};
 use crate::desk::request::Request::{Print, Release};
 use crate::desk::step::Step;
 use crate::desk::step::Step::{Ask, Dev, Grant};
@@ -25,16 +26,17 @@ fn a_queue_comes_back(rt: HostRuntime) -> Result<(), Fail> {
 const COLUMNS: &[(&str, &str)] = &[
     (
         "SELECT * FROM meta",
-        "1|2|ipp://localhost/ipp/print|release|20|0|11|\n",
+        "1|3|ipp://localhost/ipp/print|release|20|0|11|\n",
     ),
     ("SELECT * FROM policy", "1|3600|\n"),
+    ("SELECT * FROM operators", "opal|\n"),
     (
         "SELECT * FROM jobs ORDER BY number",
         "1|alice|untitled|1|20|0|0|9|0|0|25|2|22|24|\n\
          2|alice|untitled|1|20|0|0|7|1|0|0|3|NULL|21|\n\
          3|alice|untitled|1|20|0|0|7|2|0|3|4|25|26|\n\
          4|alice|untitled|1|20|0|0|8|0|0|6|5|27|28|\n\
-         5|alice|untitled|1|20|0|0|1|0|1|0|6|29|NULL|\n\
+         5|alice|untitled|1|20|0|0|1|1|1|0|6|29|NULL|\n\
          6|alice|untitled|1|20|0|0|2|0|0|4|7|31|NULL|\n\
          7|alice|untitled|1|20|0|0|0|0|0|0|8|NULL|NULL|\n\
          8|bob|untitled|1|20|1|0|0|0|0|0|9|NULL|NULL|\n\
@@ -69,23 +71,26 @@ fn columns_of_a_queue(rt: HostRuntime) -> Result<(), Fail> {
     full_tables(rt.alloc())?.show_each(COLUMNS)
 }
 
-/// The URI, the name, the estimate and the epoch of a printer, and the seconds for which it keeps a held job.
-type Printer<'a> = (&'a str, &'a str, u32, i64, u32);
+/// The URI, the name, the estimate and the epoch of a printer, the seconds for which it keeps a held job, and its operators in their order.
+type Printer<'a> = (&'a str, &'a str, u32, i64, u32, &'a [&'a str]);
 
 const PRINTERS: &[Printer<'static>] = &[
-    ("ipp://localhost/ipp/print", "release", 20, 0, 3600),
+    ("ipp://localhost/ipp/print", "release", 20, 0, 3600, &[]),
     (
         "ipps://print.example.org:8631/ipp/print",
         "Druckraum f\u{fc}r alle",
         100_000,
         1_795_000_000,
         2_147_483_647,
+        &["J\u{fc}rg", "opal"],
     ),
-    (":///ipp/print", "\n", 0, -1, 0),
+    (":///ipp/print", "\n", 0, -1, 0, &["\u{fc}"]),
 ];
 
+/// A book has the settings of the printer.
 fn has_settings(book: &TableBook<MemStore>, printer: Printer<'_>) -> Result<(), Fail> {
     let settings = book.settings()?;
+    let (uri, name, estimate, epoch, keep, names) = printer;
     let came = (
         settings.uri(),
         settings.name(),
@@ -93,13 +98,15 @@ fn has_settings(book: &TableBook<MemStore>, printer: Printer<'_>) -> Result<(), 
         settings.epoch(),
         settings.keep(),
     );
-    same(&came, &printer, "settings")
+    same(&came, &(uri, name, estimate, epoch, keep), "settings")?;
+    same(&are_named(settings.operators(), names), &true, "operators")
 }
 
 /// A new book of the printer has its settings. It is closed.
 fn make_with(alloc: Global, printer: Printer<'_>) -> Result<Tables, Fail> {
-    let (uri, name, estimate, epoch, keep) = printer;
-    let settings = Settings::new(alloc, uri, name, estimate, epoch, keep)?;
+    let (uri, name, estimate, epoch, keep, names) = printer;
+    let operators = operators_of(alloc, names)?;
+    let settings = Settings::new(alloc, uri, name, estimate, epoch, keep, operators)?;
     let book = new_book(alloc, settings)?;
     has_settings(&book, printer)?;
     Ok(Tables::of(alloc, book))
@@ -130,6 +137,7 @@ const STRANGERS: &[(&str, &str, BookFault)] = &[
     ("CREATE TABLE grants (x)", "1|\n", BookFault::Damaged),
     ("CREATE TABLE reports (x)", "1|\n", BookFault::Damaged),
     ("CREATE TABLE policy (x)", "1|\n", BookFault::Damaged),
+    ("CREATE TABLE operators (x)", "1|\n", BookFault::Damaged),
     ("CREATE TABLE Jobs (x)", "1|\n", BookFault::Damaged),
     ("CREATE VIEW jobs AS SELECT 1", "1|\n", BookFault::Damaged),
     (

@@ -7,7 +7,7 @@ use std::test::Fail;
 /// Values of columns, each by itself.
 const UNSOUND_VALUES: &str = "\
     meta | one < 9 | one | 1 | 2; 0; -1\n\
-    meta | one = 1 | schema | 2 | 0; 1; 3; 99; 4294967298\n\
+    meta | one = 1 | schema | 3 | 0; 1; 2; 4; 99; 4294967299\n\
     meta | one = 1 | uri | 'ipp://localhost/ipp/print' | ''; 'ipp://h/x'; '/ipp/print'; 'ipp://h/ipp/print?a'; 'ipp://h/ipp/print#a'; 'ipp://\u{e9}/ipp/print'; 'ipp://' || replace('xxxxxxxxxxxxxxxx', 'x', 'hhhhhhhhhhhhhhh') || '/ipp/print'\n\
     meta | one = 1 | name | 'release' | ''; replace('xxxxxxxx', 'x', 'nnnnnnnnnnnnnnnn')\n\
     meta | one = 1 | estimate | 20 | -1; 100001; 4294967316\n\
@@ -30,10 +30,13 @@ const UNSOUND_VALUES: &str = "\
     jobs | number = 2 | phase | 7 | 0; 1; 8; 9\n\
     jobs | number = 5 | phase | 1 | 0; 8; 9\n\
     jobs | number = 8 | phase | 0 | 1; 2; 3; 8; 9\n\
-    jobs | number = 2 | why | 1 | 0; 3; -1; 257\n\
-    jobs | number = 1 | why | 0 | 1; 2\n\
-    jobs | number = 8 | why | 0 | 1\n\
-    jobs | number = 5 | stopping | 1 | 2; -1; 257\n\
+    jobs | number = 2 | why | 1 | 0; 4; -1; 257; 259\n\
+    jobs | number = 1 | why | 0 | 1; 2; 3\n\
+    jobs | number = 4 | why | 0 | 3; -1\n\
+    jobs | number = 5 | why | 1 | 2; 4; -1; 257; 259\n\
+    jobs | number = 6 | why | 0 | 1; 2; 3; -1\n\
+    jobs | number = 8 | why | 0 | 1; 3; -1\n\
+    jobs | number = 5 | stopping | 1 | 0; 2; -1; 257\n\
     jobs | number = 1 | stopping | 0 | 1\n\
     jobs | number = 8 | stopping | 0 | 1\n\
     jobs | number = 1 | count | 25 | 24; 26; -1; 100000001; 4294967321\n\
@@ -67,10 +70,13 @@ const UNSOUND_VALUES: &str = "\
     reports | job = 1 AND seq = 2 | state | 5 | 2; 10; -1; 261\n\
     reports | job = 1 AND seq = 2 | total | 12 | -1; 100000001\n\
     policy | one < 9 | one | 1 | 2; 0; -1\n\
-    policy | one = 1 | keep | 3600 | -1; 2147483648; 4294970896";
+    policy | one = 1 | keep | 3600 | -1; 2147483648; 4294970896\n\
+    operators | name >= '' | name | 'opal' | ''; 'anonymous'; 'op\u{7}al'; 'opal\u{1f}'; '\u{7f}'; CAST(x'ff' AS TEXT); CAST(x'6f00' AS TEXT); replace('xxxxxxxxxxxxxxxx', 'x', 'oooooooooooooooo')";
 
 /// Several values, or keys.
 const UNSOUND_KEYS: &str = "\
+    UPDATE jobs SET phase = 7, ended = 40 WHERE number = 5 => UPDATE jobs SET phase = 1, ended = NULL WHERE number = 5\n\
+    UPDATE jobs SET phase = 7, stopping = 0, why = 0, ended = 40 WHERE number = 5 => UPDATE jobs SET phase = 1, stopping = 1, why = 1, ended = NULL WHERE number = 5\n\
     UPDATE jobs SET number = 11 WHERE number = 9 => UPDATE jobs SET number = 9 WHERE number = 11\n\
     UPDATE jobs SET number = 0 WHERE number = 9 => UPDATE jobs SET number = 9 WHERE number = 0\n\
     UPDATE jobs SET number = -1 WHERE number = 9 => UPDATE jobs SET number = 9 WHERE number = -1\n\
@@ -102,8 +108,9 @@ const SOUND_VALUES: &str = "\
     jobs | number = 2 | impressions | 20 | 0; 100000\n\
     jobs | number = 5 | phase | 1 | 2\n\
     jobs | number = 1 | phase | 9 | 8\n\
-    jobs | number = 2 | why | 1 | 2\n\
-    jobs | number = 6 | stopping | 0 | 1\n\
+    jobs | number = 2 | why | 1 | 2; 3\n\
+    jobs | number = 3 | why | 2 | 1; 3\n\
+    jobs | number = 5 | why | 1 | 3\n\
     jobs | number = 1 | created | 2 | 1; 2147483647\n\
     jobs | number = 1 | begun | 22 | NULL; 1; 2147483647\n\
     jobs | number = 1 | ended | 24 | 1; 2147483647\n\
@@ -115,7 +122,8 @@ const SOUND_VALUES: &str = "\
     reports | job = 1 AND seq = 2 | count | 12 | 0; 25\n\
     reports | job = 1 AND seq = 2 | state | 5 | 3; 9\n\
     reports | job = 1 AND seq = 2 | total | 12 | 0; 100000000\n\
-    policy | one = 1 | keep | 3600 | 0; 1; 2147483647";
+    policy | one = 1 | keep | 3600 | 0; 1; 2147483647\n\
+    operators | name >= '' | name | 'opal' | 'alice'; 'Anonymous'; ' '; '\u{80}'; 'ooooo' || replace('xxxxxxxxxx', 'x', 'ooooooooooooooooooooooooo')";
 
 /// Rows that come and go, and indexes that go, on which no answer rests.
 const SOUND_ROWS: &str = "\
@@ -124,6 +132,11 @@ const SOUND_ROWS: &str = "\
     INSERT INTO grants VALUES ('f25', 'bob', 7); UPDATE accounts SET free = 57 WHERE name = 'bob' => DELETE FROM grants WHERE batch = 'f25'; UPDATE accounts SET free = 50 WHERE name = 'bob'\n\
     DROP INDEX jobs_by_owner => CREATE INDEX jobs_by_owner ON jobs (owner, phase)\n\
     DROP INDEX jobs_by_age => CREATE INDEX jobs_by_age ON jobs (phase, created)\n\
+    DROP INDEX jobs_by_ended => CREATE INDEX jobs_by_ended ON jobs (ended)\n\
+    UPDATE jobs SET stopping = 1, why = 1 WHERE number = 6 => UPDATE jobs SET stopping = 0, why = 0 WHERE number = 6\n\
+    UPDATE jobs SET stopping = 1, why = 3 WHERE number = 6 => UPDATE jobs SET stopping = 0, why = 0 WHERE number = 6\n\
+    DELETE FROM operators => INSERT INTO operators VALUES ('opal')\n\
+    INSERT INTO operators VALUES ('a'), ('b'), ('c'), ('d'), ('e'), ('f'), ('g'), ('h'), ('i'), ('j'), ('k'), ('l'), ('m'), ('n'), ('o') => DELETE FROM operators WHERE name <> 'opal'\n\
     INSERT INTO reports VALUES (8, 5, 4, 0, 4, 0) => DELETE FROM reports WHERE job = 8";
 
 #[test]

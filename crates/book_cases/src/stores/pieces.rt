@@ -1,11 +1,11 @@
 //! Documents in pieces.
 
+use crate::desk::book::StepBook;
 use crate::desk::fault::StepFault;
 use crate::desk::request::Request::{PrintThis, Release};
 use crate::desk::step::Step::{Ask, Dev, Document, Fetch, Grant};
 use crate::stores::queue::{empty_book, take_steps};
 use crate::stores::tables::Tables;
-use queue_core::QueueBook;
 use std::alloc::{AllocError, Global};
 use std::test::Fail;
 
@@ -31,7 +31,7 @@ fn document_of(alloc: Global, length: usize) -> Result<Vec<u8>, AllocError> {
 }
 
 /// A document of one job, whose device has begun, comes back from a book.
-fn comes_back<B: QueueBook>(alloc: Global, book: &mut B, document: &[u8]) -> Result<(), StepFault> {
+fn comes_back<B: StepBook>(alloc: Global, book: &mut B, document: &[u8]) -> Result<(), StepFault> {
     let steps = [
         Grant(b"f24,alice,30\n", Ok((1, 0))),
         Ask("alice", PrintThis(document), 0x0000),

@@ -1,5 +1,6 @@
 //! A queue with a job in each phase.
 
+use crate::desk::book::StepBook;
 use crate::desk::fault::StepFault;
 use crate::desk::request::Request;
 use crate::desk::request::Request::{Cancel, Create, PrintThis, Release, Send};
@@ -7,7 +8,6 @@ use crate::desk::step::Step;
 use crate::desk::step::Step::{Ask, Dev, Grant};
 use crate::desk::{Desk, printer};
 use crate::stores::tables::{Tables, opened};
-use queue_core::QueueBook;
 use queue_store::TableBook;
 use queue_types::settings::Settings;
 use sqlite::{Connection, MemStore};
@@ -81,7 +81,7 @@ pub(super) fn long_document(alloc: Global, length: usize) -> Result<Vec<u8>, All
 }
 
 /// The long document is sent to job 7.
-fn send_long<B: QueueBook>(desk: &mut Desk, book: &mut B) -> Result<(), StepFault> {
+fn send_long<B: StepBook>(desk: &mut Desk, book: &mut B) -> Result<(), StepFault> {
     let document = long_document(desk.alloc(), LONG)?;
     let send = Send {
         job: 7,
@@ -92,19 +92,19 @@ fn send_long<B: QueueBook>(desk: &mut Desk, book: &mut B) -> Result<(), StepFaul
 }
 
 /// Makes the queue in a book without jobs, by a desk at moment 1.
-fn fill_at<B: QueueBook>(desk: &mut Desk, book: &mut B) -> Result<(), StepFault> {
+fn fill_at<B: StepBook>(desk: &mut Desk, book: &mut B) -> Result<(), StepFault> {
     desk.take_by_seconds(book, FIRST)?;
     send_long(desk, book)?;
     desk.take_by_seconds(book, SECOND)
 }
 
 /// Makes the queue in a book without jobs.
-pub(super) fn fill<B: QueueBook>(alloc: Global, book: &mut B) -> Result<(), StepFault> {
+pub(super) fn fill<B: StepBook>(alloc: Global, book: &mut B) -> Result<(), StepFault> {
     fill_at(&mut Desk::new(alloc)?, book)
 }
 
 /// Takes steps with a book.
-pub(super) fn take_steps<B: QueueBook>(
+pub(super) fn take_steps<B: StepBook>(
     alloc: Global,
     book: &mut B,
     steps: &[Step<'_>],

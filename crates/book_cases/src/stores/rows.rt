@@ -9,8 +9,8 @@ use std::test::Fail;
 
 /// Rows that come or go.
 const ROWS: &str = "\
-    DELETE FROM meta => INSERT INTO meta VALUES (1, 2, 'ipp://localhost/ipp/print', 'release', 20, 0, 11)\n\
-    INSERT INTO meta VALUES (2, 2, 'ipp://localhost/ipp/print', 'release', 20, 0, 11) => DELETE FROM meta WHERE one = 2\n\
+    DELETE FROM meta => INSERT INTO meta VALUES (1, 3, 'ipp://localhost/ipp/print', 'release', 20, 0, 11)\n\
+    INSERT INTO meta VALUES (2, 3, 'ipp://localhost/ipp/print', 'release', 20, 0, 11) => DELETE FROM meta WHERE one = 2\n\
     DELETE FROM jobs WHERE number = 9 => INSERT INTO jobs VALUES (9, 'alice', 'untitled', 1, 20, 0, 1, 0, 0, 0, 0, 10, NULL, NULL)\n\
     INSERT INTO jobs VALUES (11, 'alice', 'untitled', 1, 20, 1, 0, 0, 0, 0, 0, 10, NULL, NULL) => DELETE FROM jobs WHERE number = 11\n\
     INSERT INTO documents VALUES (1, 3, 'text/plain', 2); INSERT INTO pieces VALUES (1, 3, 0, x'6869') => DELETE FROM pieces WHERE job = 1 AND doc = 3; DELETE FROM documents WHERE job = 1 AND doc = 3\n\
@@ -28,6 +28,9 @@ const ROWS: &str = "\
     INSERT INTO grants VALUES ('f25', 'alice', 300) => DELETE FROM grants WHERE batch = 'f25'\n\
     DELETE FROM policy => INSERT INTO policy VALUES (1, 3600)\n\
     INSERT INTO policy VALUES (2, 3600) => DELETE FROM policy WHERE one = 2\n\
+    INSERT INTO operators VALUES ('anonymous') => DELETE FROM operators WHERE name = 'anonymous'\n\
+    INSERT INTO operators VALUES ('') => DELETE FROM operators WHERE name = ''\n\
+    INSERT INTO operators VALUES ('a'), ('b'), ('c'), ('d'), ('e'), ('f'), ('g'), ('h'), ('i'), ('j'), ('k'), ('l'), ('m'), ('n'), ('o'), ('p') => DELETE FROM operators WHERE name <> 'opal'\n\
     DELETE FROM reports WHERE job = 1 AND seq = 3 => INSERT INTO reports VALUES (1, 3, 5, 25, 9, 25)\n\
     INSERT INTO reports VALUES (2, 1, 4, 7, 7, 7) => DELETE FROM reports WHERE job = 2\n\
     UPDATE jobs SET hold = 0, impressions = 0 WHERE number = 10 => UPDATE jobs SET hold = 1, impressions = 20 WHERE number = 10\n\
@@ -75,7 +78,8 @@ fn more_jobs_than_an_owner_may_have(rt: HostRuntime) -> Result<(), Fail> {
 /// Each of these tables is needed.
 const NEEDED: &str = "\
     DROP TABLE meta; DROP TABLE jobs; DROP TABLE documents; DROP TABLE pieces; \
-    DROP TABLE accounts; DROP TABLE grants; DROP TABLE reports; DROP TABLE policy";
+    DROP TABLE accounts; DROP TABLE grants; DROP TABLE reports; DROP TABLE policy; \
+    DROP TABLE operators";
 
 /// The tables of a book without jobs are damaged by a statement.
 fn damage(alloc: Global, statement: &str) -> Result<(), Fail> {
@@ -113,7 +117,8 @@ const NULLS: &str = "\
     UPDATE reports SET job = NULL; UPDATE reports SET seq = NULL; \
     UPDATE reports SET kind = NULL; UPDATE reports SET count = NULL; \
     UPDATE reports SET state = NULL; UPDATE reports SET total = NULL; \
-    UPDATE policy SET keep = NULL";
+    UPDATE policy SET keep = NULL; \
+    UPDATE operators SET name = NULL";
 
 /// Values of another type than their columns.
 const OTHER_TYPES: &str = "\
@@ -124,7 +129,7 @@ const OTHER_TYPES: &str = "\
 
 /// Rows whose number is taken.
 const NUMBERS_TAKEN: &str = "\
-    INSERT INTO meta VALUES (1, 2, 'ipp://localhost/ipp/print', 'release', 20, 0, 11); \
+    INSERT INTO meta VALUES (1, 3, 'ipp://localhost/ipp/print', 'release', 20, 0, 11); \
     INSERT INTO policy VALUES (1, 0); \
     INSERT INTO jobs VALUES (9, 'alice', 'untitled', 1, 20, 1, 0, 0, 0, 0, 0, 10, NULL, NULL)";
 
@@ -134,7 +139,8 @@ const KEYS_TAKEN: &str = "\
     INSERT INTO pieces VALUES (1, 1, 0, x'6f6e65'); \
     INSERT INTO accounts VALUES ('alice', 0, 0, 0); \
     INSERT INTO grants VALUES ('f24', 'alice', 300); \
-    INSERT INTO reports VALUES (1, 1, 1, 0, 5, 0)";
+    INSERT INTO reports VALUES (1, 1, 1, 0, 5, 0); \
+    INSERT INTO operators VALUES ('opal')";
 
 /// Rows of a job, a document or an account that isn't there, or that go while others need them.
 const ROWS_APART: &str = "\

@@ -1,6 +1,7 @@
 //! What the queue with a job in each phase shows at moment 100.
 
 use crate::desk::Desk;
+use crate::desk::book::StepBook;
 use crate::desk::fault::StepFault;
 use crate::desk::request::JobsWanted::{Ended, Live};
 use crate::desk::request::Request::{LookAtAll, Printer};
@@ -9,7 +10,6 @@ use crate::desk::step::Step::{
     Ask, Document, Fetch, Jobs, NoSheet, Queue, Reply, Sheet, Statement,
 };
 use crate::stores::queue::{LONG, long_document};
-use queue_core::QueueBook;
 use queue_store::TableBook;
 use sqlite::Alter;
 use std::alloc::Global;
@@ -79,6 +79,8 @@ static REPLIES: &[Step<'static>] = &[
 static LOOKS: &[Step<'static>] = &[
     Ask("alice", LookAtAll(10), 0x0406),
     Ask("carol", LookAtAll(11), 0x0406),
+    Jobs("opal", Live, &[5, 6, 7, 8, 9, 10]),
+    Jobs("opal", Ended, &[4, 3, 1, 2]),
     Jobs("alice", Live, &[5, 6, 7, 9]),
     Jobs("alice", Ended, &[4, 3, 1, 2]),
     Jobs("bob", Live, &[8]),
@@ -114,13 +116,13 @@ static LOOKS: &[Step<'static>] = &[
 ];
 
 /// The device fetches the long document of job 7.
-fn fetch_long<B: QueueBook>(desk: &mut Desk, book: &mut B) -> Result<(), StepFault> {
+fn fetch_long<B: StepBook>(desk: &mut Desk, book: &mut B) -> Result<(), StepFault> {
     let document = long_document(desk.alloc(), LONG)?;
     desk.take(book, Fetch(7, 2, document.as_slice()))
 }
 
 /// A desk is shown all of the queue.
-fn show_all<B: QueueBook>(desk: &mut Desk, book: &mut B) -> Result<(), StepFault> {
+fn show_all<B: StepBook>(desk: &mut Desk, book: &mut B) -> Result<(), StepFault> {
     desk.take_each(book, REPLIES)?;
     desk.take_each(book, LOOKS)?;
     fetch_long(desk, book)

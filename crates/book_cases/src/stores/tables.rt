@@ -12,7 +12,7 @@ use std::io::Write;
 use std::test::Fail;
 
 /// The names of all tables and indexes, and all rows of each table.
-const QUERIES: [&str; 9] = [
+const QUERIES: [&str; 10] = [
     "SELECT name FROM sqlite_schema ORDER BY 1",
     "SELECT * FROM meta ORDER BY 1",
     "SELECT * FROM jobs ORDER BY 1",
@@ -22,6 +22,7 @@ const QUERIES: [&str; 9] = [
     "SELECT * FROM grants ORDER BY 1, 2",
     "SELECT * FROM reports ORDER BY 1, 2",
     "SELECT * FROM policy ORDER BY 1",
+    "SELECT * FROM operators ORDER BY 1",
 ];
 
 /// What becomes of tables that a book is made in or taken from.

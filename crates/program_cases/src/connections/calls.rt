@@ -1,4 +1,4 @@
-//! What clients, the device and an owner of jobs send, each on a connection of its own, and what stands in the answer that is looked for.
+//! What clients, an operator, the device and an owner of jobs send, each on a connection of its own, and what stands in the answer that is looked for.
 
 use crate::desk::connection::{filled, in_chunks_of_one_byte};
 use crate::desk::messages::{BROKEN_OFF, PRINT_JOB_3_0};
@@ -64,6 +64,16 @@ const MORE: &[u8] =
 const LAST: &[u8] =
     b"\"\x00\x0dlast-document\x00\x01\x01B\x00\x14requesting-user-name\x00\x05alice";
 
+/// The operator.
+const OPAL: &[u8] = b"B\x00\x14requesting-user-name\x00\x04opal";
+
+/// Its own jobs.
+const OPALS_OWN: &[u8] = b"B\x00\x14requesting-user-name\x00\x04opal\"\x00\x07my-jobs\x00\x01\x01";
+
+/// Everybody's jobs that have ended, with their reasons.
+const ALL_ENDED: &[u8] =
+    b"B\x00\x14requesting-user-name\x00\x04opalD\x00\x0awhich-jobs\x00\x09completedD\x00\x14requested-attributes\x00\x11job-state-reasons";
+
 /// The jobs of alice that have ended.
 const ENDED: &[u8] =
     b"B\x00\x14requesting-user-name\x00\x05aliceD\x00\x0awhich-jobs\x00\x09completed";
@@ -81,7 +91,7 @@ const NO_JOB: &[u8] = b"\x01\x01\x04\x06\x0a\x0b\x0c\x0d\x01G";
 const TAKEN: &[u8] = b"\r\n\r\nok ";
 
 /// How many calls are drawn from.
-pub(super) const KINDS: usize = 45;
+pub(super) const KINDS: usize = 51;
 
 /// The calls that are drawn of the clients.
 static CLIENT_ROWS: [Row; 22] = [
@@ -209,6 +219,46 @@ static CLIENT_ROWS: [Row; 22] = [
     ),
 ];
 
+/// The calls that are drawn of the operator.
+static OPERATOR_ROWS: [Row; 6] = [
+    (
+        1,
+        Call::Message(0x02, OPAL, b"opal"),
+        SUCCESS,
+        "the operator prints",
+    ),
+    (
+        2,
+        Call::OfJob(0x08, OPAL, b""),
+        SUCCESS,
+        "the operator cancels a job",
+    ),
+    (
+        1,
+        Call::OfJob(0x09, OPAL, b""),
+        JOB_ID,
+        "the operator sees a job",
+    ),
+    (
+        2,
+        Call::Message(0x0a, OPAL, b""),
+        JOB_ID,
+        "the operator sees everybody's jobs",
+    ),
+    (
+        2,
+        Call::Message(0x0a, OPALS_OWN, b""),
+        JOB_ID,
+        "the operator sees its own jobs",
+    ),
+    (
+        1,
+        Call::Message(0x0a, ALL_ENDED, b""),
+        b"job-canceled-by-operator",
+        "the operator has canceled a job",
+    ),
+];
+
 /// The calls that are drawn of the device, and those that are neither's.
 static DEVICE_ROWS: [Row; 23] = [
     (12, Call::Report("start", 0), TAKEN, "a job begins"),
@@ -324,16 +374,24 @@ pub(super) fn client_rows() -> &'static [Row] {
     &CLIENT_ROWS
 }
 
+/// The calls that are drawn of the operator.
+pub(super) fn operator_rows() -> &'static [Row] {
+    &OPERATOR_ROWS
+}
+
 /// The calls that are drawn of the device, and those that are neither's.
 pub(super) fn device_rows() -> &'static [Row] {
     &DEVICE_ROWS
 }
 
 /// How often they are drawn, all of them.
-pub(super) const ALL_WEIGHTS: u32 = 121;
+pub(super) const ALL_WEIGHTS: u32 = 130;
 
 /// What is asked of the queue as a whole.
-pub(super) const LOOKS: [Call; 4] = [
+pub(super) const LOOKS: [Call; 7] = [
+    Call::Message(0x0a, OPAL, b""),
+    Call::Message(0x0a, OPALS_OWN, b""),
+    Call::Message(0x0a, ALL_ENDED, b""),
     Call::Stream(GET_QUEUE, b""),
     Call::Message(0x0a, ALICE, b""),
     Call::Message(0x0a, ENDED, b""),

@@ -4,7 +4,8 @@ ghost use Rattle.std.specs.Prelude.{◌<◌};
 ghost use Rattle.queue_core.specs.Limits.{IsMoment};
 
 use crate::connections::calls::{
-    ALL_WEIGHTS, Call, Drawn, KINDS, LOOKS, LOOKS_AT_JOB, Row, client_rows, device_rows, stream_of,
+    ALL_WEIGHTS, Call, Drawn, KINDS, LOOKS, LOOKS_AT_JOB, Row, client_rows, device_rows,
+    operator_rows, stream_of,
 };
 use crate::desk::books::{DeskBook, MemoryBook, grant_in};
 use crate::desk::compare::{Mismatch, Place, Subject};
@@ -288,7 +289,7 @@ fn come_between<A: DeskBook, B: DeskBook>(pair: &mut Pair<A, B>, moment: u32) ->
 /// Draws all of the calls, each at a moment of its own, and counts the answers that are looked for. Account files and sweeps come between them.
 fn draw_calls<A: DeskBook, B: DeskBook>(pair: &mut Pair<A, B>, rows: &[Row]) -> [u32; KINDS] {
     let mut counts = [0; KINDS];
-    let mut draws = Draws { state: 10, rows };
+    let mut draws = Draws { state: 74, rows };
     let mut expired: u32 = 0;
     for moment in 1..=CALLS {
         expired = expired.saturating_add(come_between(pair, moment));
@@ -312,6 +313,6 @@ fn draw_from<A: DeskBook, B: DeskBook>(alloc: Global, rows: &[Row]) -> Result<()
 #[test]
 fn five_hundred_connections_in_a_row(rt: HostRuntime) -> Result<(), Mismatch> {
     let alloc = rt.alloc();
-    let rows = [client_rows(), device_rows()].concat(alloc)?;
+    let rows = [client_rows(), operator_rows(), device_rows()].concat(alloc)?;
     draw_from::<ListBook, MemoryBook>(alloc, rows.as_slice())
 }

@@ -3,6 +3,7 @@ ghost use Rattle.std.specs.Prelude.{◌≡◌, ◌↔◌, IsOk, IsTrue};
 
 use http_front::{ServeFault, Served};
 use queue_core::BookFault;
+use queue_types::operators::NameFault;
 use queue_types::settings::SettingFault;
 use std::alloc::AllocError;
 use std::{fmt, io};
@@ -112,6 +113,15 @@ impl From<SettingFault> for Mismatch {
         match fault {
             SettingFault::Memory => Mismatch::Memory,
             SettingFault::Bad => Mismatch::Settings,
+        }
+    }
+}
+
+impl From<NameFault> for Mismatch {
+    fn from(fault: NameFault) -> Mismatch {
+        match fault {
+            NameFault::Memory => Mismatch::Memory,
+            NameFault::TooMany | NameFault::Bad | NameFault::Twice => Mismatch::Settings,
         }
     }
 }

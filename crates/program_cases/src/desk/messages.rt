@@ -32,6 +32,18 @@ pub(crate) const IS_HELD: &[u8] =
 pub(crate) const IS_ABORTED: &[u8] =
     b"\x01\x01\x00\x00\x0a\x0b\x0c\x0d\x01G\x00\x12attributes-charset\x00\x05utf-8H\x00\x1battributes-natural-language\x00\x02en\x02#\x00\x09job-state\x00\x04\x00\x00\x00\x08\x03";
 
+/// Get-Jobs by opal, who is an operator: 142 bytes.
+pub(crate) const GET_JOBS: &[u8] =
+    b"\x01\x01\x00\x0a\x0a\x0b\x0c\x0d\x01G\x00\x12attributes-charset\x00\x05utf-8H\x00\x1battributes-natural-language\x00\x02enE\x00\x0bprinter-uri\x00\x19ipp://localhost/ipp/printB\x00\x14requesting-user-name\x00\x04opal\x03";
+
+/// The same with `my-jobs` true: 155 bytes.
+pub(crate) const GET_OWN_JOBS: &[u8] =
+    b"\x01\x01\x00\x0a\x0a\x0b\x0c\x0d\x01G\x00\x12attributes-charset\x00\x05utf-8H\x00\x1battributes-natural-language\x00\x02enE\x00\x0bprinter-uri\x00\x19ipp://localhost/ipp/printB\x00\x14requesting-user-name\x00\x04opal\"\x00\x07my-jobs\x00\x01\x01\x03";
+
+/// The reply with jobs 1 and 2.
+pub(crate) const JOBS_1_AND_2: &[u8] =
+    b"\x01\x01\x00\x00\x0a\x0b\x0c\x0d\x01G\x00\x12attributes-charset\x00\x05utf-8H\x00\x1battributes-natural-language\x00\x02en\x02E\x00\x07job-uri\x00\x1bipp://localhost/ipp/print/1!\x00\x06job-id\x00\x04\x00\x00\x00\x01\x02E\x00\x07job-uri\x00\x1bipp://localhost/ipp/print/2!\x00\x06job-id\x00\x04\x00\x00\x00\x02\x03";
+
 /// Get-Printer-Attributes of `printer-up-time`: 153 bytes.
 pub(crate) const GET_UP_TIME: &[u8] =
     b"\x01\x01\x00\x0b\x0a\x0b\x0c\x0d\x01G\x00\x12attributes-charset\x00\x05utf-8H\x00\x1battributes-natural-language\x00\x02enE\x00\x0bprinter-uri\x00\x19ipp://localhost/ipp/printD\x00\x14requested-attributes\x00\x0fprinter-up-time\x03";

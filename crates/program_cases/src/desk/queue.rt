@@ -9,6 +9,7 @@ use crate::desk::requests::{IPP, POST_JOB};
 use crate::desk::streams::{AT_ONCE, TestReader, TestWriter, Way};
 use http_front::{End, ServeFault, Served, serve};
 use queue_core::QueueBook;
+use queue_types::operators::operator_names;
 use queue_types::settings::Settings;
 use std::alloc::Global;
 use std::cell::Cell;
@@ -16,9 +17,18 @@ use std::cell::Cell;
 /// What every connection and file comes at.
 const MOMENT: u32 = 1;
 
-/// A printer with an estimate of 20 pages, which keeps a held job for an hour.
+/// A printer with an estimate of 20 pages, which keeps a held job for an hour and whose operator is opal.
 pub(crate) fn settings(alloc: Global) -> Result<Settings, Mismatch> {
-    let settings = Settings::new(alloc, "ipp://localhost/ipp/print", "release", 20, 0, 3600)?;
+    let operators = operator_names(alloc, &["opal"])?;
+    let settings = Settings::new(
+        alloc,
+        "ipp://localhost/ipp/print",
+        "release",
+        20,
+        0,
+        3600,
+        operators,
+    )?;
     Ok(settings)
 }
 

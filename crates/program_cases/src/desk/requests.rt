@@ -29,6 +29,14 @@ pub(crate) const POST_UP_TIME: &[u8] =
 pub(crate) const POST_STATE: &[u8] =
     b"POST /ipp/print HTTP/1.1\r\nContent-Type: application/ipp\r\nContent-Length: 192\r\n\r\n";
 
+/// The head of a POST of an operator's look at jobs.
+pub(crate) const POST_GET_JOBS: &[u8] =
+    b"POST /ipp/print HTTP/1.1\r\nContent-Type: application/ipp\r\nContent-Length: 142\r\n\r\n";
+
+/// The head of one at its own jobs.
+pub(crate) const POST_GET_OWN_JOBS: &[u8] =
+    b"POST /ipp/print HTTP/1.1\r\nContent-Type: application/ipp\r\nContent-Length: 155\r\n\r\n";
+
 /// The head of a POST of the release of a job.
 pub(crate) const POST_RELEASE: &[u8] =
     b"POST /ipp/print HTTP/1.1\r\nContent-Type: application/ipp\r\nContent-Length: 158\r\n\r\n";

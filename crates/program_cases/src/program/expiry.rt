@@ -26,7 +26,7 @@ pub(super) const HELD: Step = Runs(
 );
 
 /// The statement of alice before these jobs expire.
-const RESERVED: Told = (
+pub(super) const RESERVED: Told = (
     0,
     "account alice\n\
     granted               30\n\
@@ -52,9 +52,9 @@ const FREE: Told = (
     "",
 );
 
-const NONE_EXPIRED: Step = Tells(EXPIRE, (0, "expired 0\n", ""));
+pub(super) const NONE_EXPIRED: Step = Tells(EXPIRE, (0, "expired 0\n", ""));
 
-const TWO_EXPIRED: Step = Tells(EXPIRE, (0, "expired 2\n", ""));
+pub(super) const TWO_EXPIRED: Step = Tells(EXPIRE, (0, "expired 2\n", ""));
 
 static EXPIRING: [Row; 6] = [
     (
@@ -130,20 +130,41 @@ fn jobs_that_expire(rt: HostRuntime) -> Result<(), Fail> {
     take_rows(&rt, "expiry", &EXPIRING)
 }
 
+/// Makes the tables those of a release without operators.
+pub(super) const TO_SECOND: Step = Runs(
+    "DROP INDEX jobs_by_ended; DROP TABLE operators; UPDATE meta SET schema = 2",
+);
+
 /// Makes the tables those of a release without expiry.
-const OLDER: Step = Runs("DROP INDEX jobs_by_age; DROP TABLE policy; UPDATE meta SET schema = 1");
+pub(super) const TO_FIRST: Step = Runs(
+    "DROP INDEX jobs_by_ended; DROP TABLE operators; DROP INDEX jobs_by_age; DROP TABLE policy; UPDATE meta SET schema = 1",
+);
 
 const NO_SWEEP: Step = Keeps(STORE, EXPIRE, DAMAGED);
 
-static OLDER_STORES: [Row; 3] = [
-    // its tables are taken to the newest schema, and its jobs are kept without end
+static OLDER_STORES: [Row; 4] = [
+    // its tables are taken to the newest schema, and its jobs are kept for as long as before
     (
-        "a store of an earlier release",
+        "a store of a release without operators",
+        &[
+            MADE_WITH_KEEP,
+            IMPORTED,
+            HELD,
+            TO_SECOND,
+            Tells(STATEMENT, RESERVED),
+            REPEATED,
+            TWO_EXPIRED,
+            Tells(STATEMENT, FREE),
+        ],
+    ),
+    // they are kept without end
+    (
+        "a store of a release without expiry",
         &[
             MADE,
             IMPORTED,
             HELD,
-            OLDER,
+            TO_FIRST,
             Tells(STATEMENT, RESERVED),
             REPEATED,
             NONE_EXPIRED,
@@ -157,13 +178,21 @@ static OLDER_STORES: [Row; 3] = [
         &[
             MADE,
             IMPORTED,
-            OLDER,
+            TO_FIRST,
             Runs("UPDATE meta SET schema = 2"),
             NO_SWEEP,
             Keeps(STORE, STATEMENT, DAMAGED),
+            Runs("UPDATE meta SET schema = 3"),
+            NO_SWEEP,
             Runs("UPDATE meta SET schema = 99"),
             NO_SWEEP,
             Runs("UPDATE meta SET schema = 1"),
+            NONE_EXPIRED,
+            TO_SECOND,
+            Runs("UPDATE meta SET schema = 3"),
+            NO_SWEEP,
+            Keeps(STORE, STATEMENT, DAMAGED),
+            Runs("UPDATE meta SET schema = 2"),
             NONE_EXPIRED,
         ],
     ),

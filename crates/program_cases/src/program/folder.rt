@@ -40,6 +40,8 @@ pub(super) const DAMAGED: Told = (1, "", "printd: damaged\n");
 
 pub(super) const IO: Told = (1, "", "printd: io\n");
 
+pub(super) const BAD_SETTING: Told = (1, "", "printd: bad setting\n");
+
 pub(super) const NO_ACCOUNT: Told = (1, "", "printd: no account\n");
 
 /// The line that makes the store.
@@ -51,6 +53,9 @@ pub(super) const IMPORT: &str = "printd import --store @/store @/file";
 
 /// The line that ends the store's jobs which have expired.
 pub(super) const EXPIRE: &str = "printd expire --store @/store";
+
+/// The line that makes opal the store's operator.
+pub(super) const OPERATORS: &str = "printd operators --store @/store opal";
 
 /// The line that prints alice's statement.
 pub(super) const STATEMENT: &str = "printd statement --store @/store alice";

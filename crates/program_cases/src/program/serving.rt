@@ -2,13 +2,19 @@
 
 use crate::desk::compare::{Failed, Mismatch, failed_at};
 use crate::desk::connection::Wanted::Success;
-use crate::desk::messages::{GET_STATE, GET_UP_TIME, IS_ABORTED, JOB_1, JOB_2, PRINT_JOB};
-use crate::desk::requests::{IPP, POST_JOB, POST_STATE, POST_UP_TIME};
+use crate::desk::messages::{
+    DONE as NO_JOBS, GET_JOBS, GET_OWN_JOBS, GET_STATE, GET_UP_TIME, IS_ABORTED, JOB_1, JOB_2,
+    JOBS_1_AND_2, PRINT_JOB,
+};
+use crate::desk::requests::{
+    IPP, POST_GET_JOBS, POST_GET_OWN_JOBS, POST_JOB, POST_STATE, POST_UP_TIME,
+};
+use crate::desk::streams::NO_ROOM;
 use crate::program::expiry::{HELD, MADE_WITH_KEEP};
-use crate::program::folder::Step::{Copies, IsEmpty, Keeps, Lacks, TakenPort, Tells};
+use crate::program::folder::Step::{Copies, IsEmpty, Keeps, Lacks, TakenPort, Tells, Unprinted};
 use crate::program::folder::{
-    AT, DISK, DONE, EXPIRE, FILE, Folder, IMPORT, IMPORTED, INIT, IO, MADE, REPEATED, Row,
-    STATEMENT, STORE, Step, take_rows,
+    AT, DISK, DONE, EXPIRE, FILE, Folder, IMPORT, IMPORTED, INIT, IO, MADE, OPERATORS, REPEATED,
+    Row, STATEMENT, STORE, Step, take_rows,
 };
 use crate::program::serving::Turn::{Serves, Takes};
 use crate::program::sockets::Comes::{Sends, SendsLast};
@@ -185,7 +191,7 @@ const OF_7_PAGES: &[u8] =
     b"\x01\x01\x00\x00\x0a\x0b\x0c\x0d\x01G\x00\x12attributes-charset\x00\x05utf-8H\x00\x1battributes-natural-language\x00\x02en\x02!\x00\x0fjob-impressions\x00\x04\x00\x00\x00\x07\x03";
 
 /// Servers over stores, each row in a folder of its own.
-static SERVED: [(&str, &[Turn]); 5] = [
+static SERVED: [(&str, &[Turn]); 6] = [
     // What a server took stands in the store that the next one opens. A store is whole in its one file once its server has ended, so that a
     // copy of that file alone is served too.
     (
@@ -295,6 +301,37 @@ static SERVED: [(&str, &[Turn]); 5] = [
                 seconds: (0, 60),
             }),
             Takes(&[Tells(EXPIRE, (0, "expired 0\n", ""))]),
+        ],
+    ),
+    // An operator lists the jobs of alice, and has none of its own. Its number was not printed, and it is one all the same. Then another is.
+    (
+        "operators of a store that is served",
+        &[
+            Takes(&[MADE, IMPORTED, HELD, Unprinted(OPERATORS, NO_ROOM)]),
+            Serves(Serving {
+                words: "--store @/store --timeout 1",
+                steps: &[Keeps(STORE, OPERATORS, DISK)],
+                clients: &[(
+                    SendsLast(&[POST_GET_JOBS, GET_JOBS, POST_GET_OWN_JOBS, GET_OWN_JOBS]),
+                    All(&[Success(IPP, JOBS_1_AND_2), Success(IPP, NO_JOBS)]),
+                )],
+                counts: "served 2\n",
+                seconds: (0, 60),
+            }),
+            Takes(&[Tells(
+                "printd operators --store @/store pearl",
+                (0, "operators 1\n", ""),
+            )]),
+            Serves(Serving {
+                words: "--store @/store --timeout 1",
+                steps: &[],
+                clients: &[(
+                    SendsLast(&[POST_GET_JOBS, GET_JOBS]),
+                    All(&[Success(IPP, NO_JOBS)]),
+                )],
+                counts: "served 1\n",
+                seconds: (0, 60),
+            }),
         ],
     ),
 ];

@@ -5,12 +5,10 @@ use crate::program::folder::Step::{
     Copies, HasByte, IsEmpty, IsPrivate, Keeps, Lacks, Links, Tells, Turns, Writes,
 };
 use crate::program::folder::{
-    DAMAGED, DISK, IMPORTED, INIT, MADE, NO_ACCOUNT, REPEATED, Row, STATEMENT, STORE, Step, Told,
-    take_rows,
+    BAD_SETTING, DAMAGED, DISK, IMPORTED, INIT, MADE, NO_ACCOUNT, REPEATED, Row, STATEMENT, STORE,
+    Step, take_rows,
 };
 use std::test::Fail;
-
-const BAD_SETTING: Told = (1, "", "printd: bad setting\n");
 
 /// The file of the store's log.
 const LOG: &str = "@/store-wal";

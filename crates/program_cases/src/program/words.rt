@@ -42,7 +42,7 @@ For more information, try '--help'.
 ";
 
 /// Lines of words that name no command, the exit status, and what is told; none where only that something is told is looked at.
-static NO_COMMANDS: [(&str, u8, Option<&str>); 21] = [
+static NO_COMMANDS: [(&str, u8, Option<&str>); 25] = [
     ("printd", 2, None),
     ("printd print", 2, None),
     ("printd replay now", 2, None),
@@ -64,6 +64,9 @@ static NO_COMMANDS: [(&str, u8, Option<&str>); 21] = [
     ("printd expire", 2, None),
     ("printd expire --store", 2, None),
     ("printd expire --store a b", 2, None),
+    ("printd operators", 2, None),
+    ("printd operators opal", 2, None),
+    ("printd operators --store a", 2, None),
     (
         "printd serve --store a --port 0 --connections 1",
         2,
@@ -86,6 +89,7 @@ static NO_COMMANDS: [(&str, u8, Option<&str>); 21] = [
         None,
     ),
     ("printd --help", 0, None),
+    ("printd operators --help", 0, None),
     ("printd init --help", 0, Some(INIT_HELP)),
     ("printd serve --help", 0, Some(SERVE_HELP)),
 ];

@@ -19,11 +19,15 @@ command_of-requires c =
     let rows = met_by_definition _ words _ c.in_ok-defined.ensures.app c.in_ok-matches.ensures.matches in
     meets_one _ words (meets_subcommand _ _ c.in_ok-defined.ensures c.in_ok-matches.ensures.parsed) rows
 
+pub returns-in_err-command-clause-refused : goal.returns-in_err-command-clause-refused
+returns-in_err-command-clause-refused c =
+    let p = err_from_is_err_and c.from_residual-in_err-command.result c.from_residual-in_err-command.ensures.1 in rw (p.1, p.2) tt
+
 pub returns-clause-named : goal.returns-clause-named
 returns-clause-named c =
     let words : List Text = map (λ w. w.now) c.args.words.now in
     let rows = met_by_definition _ words _ c.in_ok-defined.ensures.app c.in_ok-matches.ensures.matches in
-    rw rows at c.command_of.ensures
+    rw rows at c.in_ok-command.ensures
 
 pub returns-clause-taken : goal.returns-clause-taken
 returns-clause-taken c = taken_words _ _ c.in_ok-defined.ensures.app c.in_ok-matches.ensures.kinds

@@ -11,7 +11,8 @@ unreachable-requires-in_default-name c =
       | inr (inl h) ↦ c.in_default-name.not-import h
       | inr (inr (inl h)) ↦ c.in_default-name.not-statement h
       | inr (inr (inr (inl h))) ↦ c.in_default-name.not-expire h
-      | inr (inr (inr (inr (inl h)))) ↦ c.in_default-name.not-serve h
-      | inr (inr (inr (inr (inr (inl h))))) ↦ c.in_default-name.not-replay h
-      | inr (inr (inr (inr (inr (inr h))))) ↦ h
+      | inr (inr (inr (inr (inl h)))) ↦ c.in_default-name.not-operators h
+      | inr (inr (inr (inr (inr (inl h))))) ↦ c.in_default-name.not-serve h
+      | inr (inr (inr (inr (inr (inr (inl h)))))) ↦ c.in_default-name.not-replay h
+      | inr (inr (inr (inr (inr (inr (inr h)))))) ↦ h
     ]

@@ -4,7 +4,7 @@ use Rattle.commands.proofs.StoreLemmas.{at_any_second, is_bad, is_stream}
 use Rattle.commands.proofs.new_store.new_settings.Goals as goal
 
 pub returns-clause-ok : goal.returns-clause-ok
-returns-clause-ok g c = (_, c.in_ok-settings.ensures.ok)
+returns-clause-ok g c = let ok = rw c.none.ensures at c.in_ok-settings.ensures.ok in (_, ok)
 
 pub returns-in_err-epoch-clause-bad : goal.returns-in_err-epoch-clause-bad
 returns-in_err-epoch-clause-bad g c =
@@ -14,7 +14,8 @@ returns-in_err-epoch-clause-bad g c =
 pub returns-in_err-settings-clause-bad : goal.returns-in_err-settings-clause-bad
 returns-in_err-settings-clause-bad g c =
     let p = err_from_is_err_and c.from_residual-in_err-settings.result c.from_residual-in_err-settings.ensures.1 in
-    rw p.1 (λ bad epoch s. c.in_err-settings.ensures.bad.0 (ap Err (is_bad _ (sym p.2 ∙ bad))) (at_any_second c.args.words epoch _ s))
+    let refused = rw c.none.ensures at c.in_err-settings.ensures.bad in
+    rw p.1 (λ bad epoch s. refused.0 (ap Err (is_bad _ (sym p.2 ∙ bad))) (at_any_second c.args.words epoch _ s))
 
 pub returns-clause-fits : goal.returns-clause-fits
-returns-clause-fits g c = λ epoch. at_any_second c.args.words _ epoch (c.in_ok-settings.ensures.fits refl)
+returns-clause-fits g c = let fits = rw c.none.ensures at c.in_ok-settings.ensures.fits in λ epoch. at_any_second c.args.words _ epoch (fits refl)

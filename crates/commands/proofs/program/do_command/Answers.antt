@@ -3,17 +3,14 @@ use Rattle.std.proofs.lemmas.Result.{IfOk-weaker}
 use Rattle.std.specs.Io.Buffered.{writer_contents}
 use Rattle.command_ends.specs.Faults.{IsOfStream}
 use Rattle.command_words.specs.declared.outcome.Command.{Command}
-use Rattle.command_words.specs.declared.outcome.Init.{Init}
 use Rattle.commands.specs.Printed.{HasPrinted}
 use Rattle.commands.specs.Refusals.{MayBePrintedBy, MayBeToldBy}
-use Rattle.commands.specs.Store.{CanBeMade}
+use Rattle.commands.specs.Store.{IsAllowed}
 use Rattle.commands.proofs.EndingLemmas.{any_err}
 use Rattle.commands.proofs.program.do_command.Goals as goal
 
-pub returns-in-Init-clause-made : goal.returns-in-Init-clause-made
-returns-in-Init-clause-made g c = λ words is.
-    let same : c.in-Init.words ≡ words = cc in
-    subst (λ (z : Init). OnOk c.do_init.result (CanBeMade z)) same c.do_init.ensures.made
+pub returns-in-Init-clause-allowed : goal.returns-in-Init-clause-allowed
+returns-in-Init-clause-allowed g c = subst (λ (z : Command). OnOk c.do_init.result (IsAllowed z)) (sym c.in-Init.is) c.do_init.ensures.made
 
 -- ---- a replay
 

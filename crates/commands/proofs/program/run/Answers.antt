@@ -3,7 +3,7 @@ use Rattle.std.specs.Io.Buffered.{writer_buffer, writer_contents}
 use Rattle.std.proofs.lemmas.Result.{IfOk-weaker}
 use Rattle.command_ends.specs.declared.fault.Fault.TheVariants.{Memory}
 use Rattle.commands.specs.Printed.{HasPrinted}
-use Rattle.commands.specs.Store.{CanBeMade}
+use Rattle.commands.specs.Store.{IsAllowed}
 use Rattle.commands.proofs.EndingLemmas.{asks_nothing, asks_something, asks_text, at_least_one, at_most, at_status, but_one, none_among}
 use Rattle.commands.proofs.PrintedLemmas.{told_of, untold}
 use Rattle.commands.proofs.program.run.Goals as goal
@@ -16,7 +16,7 @@ returns-in-Ok-clause-done g c = λ none zero.
     let ok = (but_one _ c.do_command-done.result c.end.result c.end.ensures.done c.end.ensures.refused (λ one. absurd (omega arith))).0 in (
       c.in-Ok.command,
       c.in-Ok.ensures.named,
-      λ words is. at_status _ (λ n. CanBeMade words) c.do_command-done.result c.end.result c.end.ensures.done ok (c.do_command-done.ensures.made words is),
+      at_status _ (λ n. IsAllowed c.in-Ok.command) c.do_command-done.result c.end.result c.end.ensures.done ok c.do_command-done.ensures.allowed,
       subst (λ n. HasPrinted c.in-Ok.command n (writer_contents g.O.Write.contents c.args.out.now) (writer_contents g.O.Write.contents c.do_command-done.new.out)) zero
           (at_status _ _ c.do_command-done.result c.end.result c.end.ensures.done ok c.do_command-done.ensures.printed),
     )

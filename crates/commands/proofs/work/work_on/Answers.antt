@@ -1,7 +1,7 @@
 use Rattle.std.proofs.Common.{ap, arith, refl, subst, sym, inl, inr}
 use Rattle.std.proofs.lemmas.Result.{IfErr-weaker, on_ok_weaker}
 use Rattle.commands.specs.Work.{AreIn, HasEnded}
-use Rattle.commands.specs.declared.work.Work.TheVariants.{Import, Statement, Expire, Serve}
+use Rattle.commands.specs.declared.work.Work.TheVariants.{Import, Statement, Expire, Operators, Serve}
 use Rattle.commands.proofs.EndingLemmas.{both, both_ok, by_four, or_same}
 use Rattle.commands.proofs.WorkLemmas.{ended}
 use Rattle.commands.proofs.work.work_on.Goals as goal
@@ -81,6 +81,31 @@ returns-in-Expire g c =
         ),
       );
     }) (both c.expire_in.result _ _ (c.expire_in.ensures.left honest) (c.expire_in.ensures.damaged honest))))
+
+pub returns-in-Operators : goal.returns-in-Operators
+returns-in-Operators g c =
+    subst (λ work. HasEnded g.S.Store (AreIn c.args.opened.file) work c.args.book.now c.set_operators_in.new.book (g.W.Write.contents c.args.output.now) (g.W.Write.contents c.set_operators_in.new.output) c.set_operators_in.result) (sym c.in-Operators.is)
+    (ended g.S.Store (AreIn c.args.opened.file) (Operators c.in-Operators.work) c.args.book.now c.set_operators_in.new.book (g.W.Write.contents c.args.output.now) (g.W.Write.contents c.set_operators_in.new.output) c.set_operators_in.result c.set_operators_in.ensures.written
+    (λ honest. on_ok_weaker c.set_operators_in.result (λ told. record {
+      began = c.set_operators_in.ensures.began honest;
+      done = told.0;
+      live = λ leaves. told.1;
+    }) (both_ok c.set_operators_in.result _ _ (c.set_operators_in.ensures.set honest) (c.set_operators_in.ensures.live honest)))
+    (IfErr-weaker c.set_operators_in.result _ _ (λ fault it. record {
+      told = it.0;
+      quiet = or_same g.W.Write.contents _ _ it.1;
+    }) (both c.set_operators_in.result _ _ c.set_operators_in.ensures.told c.set_operators_in.ensures.quiet))
+    (λ honest. IfErr-weaker c.set_operators_in.result _ _ (λ fault told. record {
+      began = c.set_operators_in.ensures.began honest;
+      refused = λ w stands. let it = told.0 w stands in (
+        it.0,
+        it.1,
+        (
+          record { undamaged = λ is. told.1 is w stands; left = elim it.2.0 [ inl same ↦ inl (same.0, ap g.W.Write.contents same.1) | inr set ↦ inr set ] },
+          it.2.1,
+        ),
+      );
+    }) (both c.set_operators_in.result _ _ (c.set_operators_in.ensures.left honest) (c.set_operators_in.ensures.damaged honest))))
 
 pub returns-in-Serve : goal.returns-in-Serve
 returns-in-Serve g c =

@@ -11,4 +11,4 @@ pub returns-clause-ended : goal.returns-clause-ended
 returns-clause-ended c w now n caller call j k sound turn high = ended_left w now n caller call j k sound turn.was high turn.is
 
 pub returns-clause-marked : goal.returns-clause-marked
-returns-clause-marked c w now n caller call j k sound turn mark = marked_left w now n caller call j k sound turn.was mark turn.is
+returns-clause-marked c w now n caller call j k why sound turn mark = marked_left w now n caller call j k sound turn.was why mark turn.is

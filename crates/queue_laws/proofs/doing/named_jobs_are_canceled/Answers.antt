@@ -2,7 +2,7 @@ use Rattle.queue_laws.proofs.OnNamed.{named_as_one, named_done, named_others_sta
 use Rattle.queue_laws.proofs.doing.named_jobs_are_canceled.Goals as goal
 
 pub returns-clause-each : goal.returns-clause-each
-returns-clause-each c = λ w now n caller numbers sound done. named_as_one w now caller numbers sound done n
+returns-clause-each c = λ w now n caller numbers sound may done. named_as_one w now caller numbers sound may done n
 
 pub returns-clause-done : goal.returns-clause-done
 returns-clause-done c = named_done

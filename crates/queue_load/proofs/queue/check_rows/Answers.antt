@@ -14,5 +14,5 @@ returns-then-not-branch g c =
 pub returns : goal.returns
 returns g c =
     let sound : IsTrue c.in_ok-are_sound_rows.field-0 = search rules in
-    let reads = c.check_accounts.ensures.reads in
-    record { reads = reads_by c.check_accounts.result reads.leaves reads.same (λ fits. fits) reads.read reads.damaged (λ n schema u keyed. (c.in_ok-are_sound_rows.ensures.sound sound, keyed)) (λ n schema bad form. bad form.1) }
+    let reads = c.check_keys.ensures.reads in
+    record { reads = reads_by c.check_keys.result reads.leaves reads.same (λ fits. fits) reads.read reads.damaged (λ n schema u keyed. (c.in_ok-are_sound_rows.ensures.sound sound, keyed)) (λ n schema bad form. bad form.1) }

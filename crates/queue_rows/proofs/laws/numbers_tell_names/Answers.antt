@@ -1,8 +1,8 @@
-use Rattle.queue_rows.proofs.CodeLemmas.{same_phase, same_kind, same_job_state, same_flag}
+use Rattle.queue_rows.proofs.CodeLemmas.{same_course, same_kind, same_job_state, same_flag}
 use Rattle.queue_rows.proofs.laws.numbers_tell_names.Goals as goal
 
-pub returns-clause-phases : goal.returns-clause-phases
-returns-clause-phases c = same_phase
+pub returns-clause-courses : goal.returns-clause-courses
+returns-clause-courses c = same_course
 
 pub returns-clause-kinds : goal.returns-clause-kinds
 returns-clause-kinds c = same_kind

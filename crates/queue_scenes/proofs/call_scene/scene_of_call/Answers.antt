@@ -23,11 +23,14 @@ returns-in-SendDocument-clause-reads g c =
 
 pub returns-in-CancelJob-clause-reads : goal.returns-in-CancelJob-clause-reads
 returns-in-CancelJob-clause-reads g c =
+    tells_as c.scene_of_cancel.ensures.reads (λ w sound s is settings_are. is settings_are ∙ ap (λ call. cut w 0 (ask c.args.caller.now (call_of call))) (sym c.in-CancelJob.is))
+
+pub returns-in-HoldJob-clause-reads : goal.returns-in-HoldJob-clause-reads
+returns-in-HoldJob-clause-reads g c =
     tells_as c.scene_of_job_and_account.ensures.reads (λ w sound s is settings_are.
-    is settings_are ∙ (elim c.in-CancelJob.is [
+    is settings_are ∙ (elim c.in-HoldJob.is [
       | inl it ↦ ap (λ call. cut w 0 (ask c.args.caller.now (call_of call))) (sym it)
-      | inr (inl it) ↦ ap (λ call. cut w 0 (ask c.args.caller.now (call_of call))) (sym it)
-      | inr (inr it) ↦ ap (λ call. cut w 0 (ask c.args.caller.now (call_of call))) (sym it)
+      | inr it ↦ ap (λ call. cut w 0 (ask c.args.caller.now (call_of call))) (sym it)
     ]))
 
 pub returns-in-CancelMyJobs-clause-reads : goal.returns-in-CancelMyJobs-clause-reads

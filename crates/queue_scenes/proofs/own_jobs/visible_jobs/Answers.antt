@@ -1,3 +1,4 @@
+use Rattle.std.proofs.Common.{false}
 use Rattle.queue_core.specs.Visible.{visible}
 use Rattle.queue_core.specs.World.{rows}
 use Rattle.queue_scenes.proofs.Ended.{selects_ended}
@@ -17,7 +18,7 @@ returns-clause-reads g c =
     let reads = rw (c.params-to_sql.ensures, c.params-to_sql-2.ensures) at (c.select_jobs.ensures.reads) in
     let owner = c.args.owner.now in
     let most = c.unwrap_or-most in
-    reads (λ w. visible owner c.args.which c.args.limit (rows w)) (elim c.match-which.branch [
+    reads (λ w. visible false owner c.args.which c.args.limit (rows w)) (elim c.match-which.branch [
       | in-NotCompleted w ↦ rw (w.text-is, w.in-NotCompleted.is) (selects_live owner c.args.limit most.result most.ensures _)
       | in-Completed w ↦ rw (w.text-is, w.in-Completed.is) (selects_ended owner c.args.limit most.result most.ensures _)
     ])

@@ -1,4 +1,4 @@
-use Rattle.std.proofs.Common.{◌≡◌, IsTrue, is_none, rules, sym, ◌∙◌}
+use Rattle.std.proofs.Common.{IsTrue, rules, sym, ◌∙◌}
 use Rattle.std.proofs.lemmas.Bool.{not-true}
 use Rattle.sqlite.specs.Held.{state}
 use Rattle.queue_rows.specs.Rows.{tables_in}
@@ -11,8 +11,7 @@ returns-clause-found g c = λ fits clean.
     let old = state g.S.Store c.args.conn.now in
     let new = state g.S.Store c.load_queue.new.conn in
     let outside : IsTrue c.is_autocommit.result = search rules in
-    let first : c.is_none.result ≡ is_none (tables_in c.in_ok-rows.rows).policy = search rules in
-    found (tables_in c.in_ok-rows.rows) old new c.in_ok-settings.settings c.is_none.result (c.in_ok-rows.ensures.queue fits clean) c.schema-schema.ensures.live (c.in_ok-rows.ensures.same clean) (c.is_autocommit.ensures.settled outside) (not-true _ (sym c.is_autocommit.ensures.value ∙ outside)) c.in_ok-settings.ensures.ok first
+    found (tables_in c.in_ok-rows.rows) old new c.in_ok-settings.settings c.version_of.result (c.in_ok-rows.ensures.queue fits clean) c.schema-schema.ensures.live (c.in_ok-rows.ensures.same clean) (c.is_autocommit.ensures.settled outside) (not-true _ (sym c.is_autocommit.ensures.value ∙ outside)) c.in_ok-settings.ensures.ok c.version_of.ensures
 
 pub returns-in_err-settings-clause-damaged : goal.returns-in_err-settings-clause-damaged
 returns-in_err-settings-clause-damaged g c = λ fits clean.

@@ -18,4 +18,4 @@ returns-in_err-meta-clause-makes g c = none_made (empty_queue c.args.settings.no
 pub returns-clause-makes : goal.returns-clause-makes
 returns-clause-makes g c =
     let blank : IsTrue c.is_blank.result = search rules in
-    c.make_tables.ensures.makes (c.is_blank.ensures.0 blank) (empty_queue c.args.settings.now) ((λ i. new_content (c.in_ok-meta.ensures i) (c.policy_row-policy.ensures i)) ∙ new_is c.args.settings.now)
+    c.make_tables.ensures.makes (c.is_blank.ensures.0 blank) (empty_queue c.args.settings.now) ((λ i. new_content (c.in_ok-meta.ensures i) (c.policy_row-policy.ensures i) (c.operators.ensures.operators i)) ∙ new_is c.args.settings.now)

@@ -5,4 +5,4 @@ use Rattle.queue_store.proofs.migrate.create_age.Goals as goal
 
 pub returns-clause-done : goal.returns-clause-done
 returns-clause-done g c clean =
-    on_ok c.define.result _ _ (λ ran content has. makes_age (state g.S.Store c.args.tx.now.conn.now) (state g.S.Store c.define.new.tx.conn.now) ran.0 content has ran.1) (c.define.ensures.ran clean)
+    on_ok c.run.result _ _ (λ ran content has. makes_age (state g.S.Store c.args.tx.now.conn.now) (state g.S.Store c.run.new.tx.conn.now) ran.0 content has ran.1) (c.run.ensures.ran clean)

@@ -4,11 +4,10 @@ use Rattle.sqlite.specs.State.{HasCleanDisk, IsRolledBack}
 use Rattle.sqlite.specs.Held.{state}
 use Rattle.queue_tables.proofs.Ending.{clean_before, not_inside}
 use Rattle.queue_store.proofs.Making.{none_made, tables_failed, tables_made, tables_refused}
-use Rattle.queue_rows.specs.Versions.{first_version}
-use Rattle.queue_tables.specs.Content.{numbered_content}
-use Rattle.queue_store.proofs.Taken.{first_begun}
+use Rattle.queue_store.proofs.Taken.{held_begun}
 use Rattle.queue_store.proofs.Results.{on_any_err}
 use Rattle.queue_store.proofs.Unmade.{commit_undone, keeps_all, keeps_undone}
+use Rattle.queue_store.specs.Older.{version_of}
 use Rattle.queue_store.proofs.migrate.migrate.Goals as goal
 
 pub returns-then-not-is_autocommit-clause-kept : goal.returns-then-not-is_autocommit-clause-kept
@@ -71,7 +70,7 @@ returns-clause-makes g c = λ w fits has.
     let new = state g.S.Store c.commit.new.self.0 in
     let stays = rw c.transaction-tx.ensures.begun at c.in_ok-migrate_all.ensures.stays in
     let done = rw c.transaction-tx.ensures.begun at c.in_ok-migrate_all.ensures.done in
-    rw tie (tables_made w old mid new (c.is_autocommit.ensures.settled outside) (not-true _ (sym c.is_autocommit.ensures.value ∙ outside)) c.commit.ensures.ended _ stays (λ clean. done clean w fits (first_begun (numbered_content first_version w) old has)) (λ clean. (c.in_ok-commit.ensures.ok clean).1) c.commit.ensures.survives)
+    rw tie (tables_made w old mid new (c.is_autocommit.ensures.settled outside) (not-true _ (sym c.is_autocommit.ensures.value ∙ outside)) c.commit.ensures.ended _ stays (λ clean. done clean w fits (held_begun (version_of c.args.version) w old has)) (λ clean. (c.in_ok-commit.ensures.ok clean).1) c.commit.ensures.survives)
 
 pub returns-in_err-commit-clause-makes : goal.returns-in_err-commit-clause-makes
 returns-in_err-commit-clause-makes g c = λ w fits has.
@@ -83,7 +82,7 @@ returns-in_err-commit-clause-makes g c = λ w fits has.
     let stays = rw c.transaction-tx.ensures.begun at c.in_ok-migrate_all.ensures.stays in
     let done = rw c.transaction-tx.ensures.begun at c.in_ok-migrate_all.ensures.done in
     let back : HasCleanDisk new → IsRolledBack mid new = λ clean. commit_undone mid new _ (stays.inside (clean_before mid new c.commit.ensures.survives.clean clean) refl) (c.in_err-commit.ensures.err clean) in
-    rw tie (tables_failed w old mid new (c.is_autocommit.ensures.settled outside) (not-true _ (sym c.is_autocommit.ensures.value ∙ outside)) c.commit.ensures.ended stays (λ clean. done clean w fits (first_begun (numbered_content first_version w) old has)) back c.commit.ensures.survives _ _ c.from_residual-in_err-commit.ensures.1)
+    rw tie (tables_failed w old mid new (c.is_autocommit.ensures.settled outside) (not-true _ (sym c.is_autocommit.ensures.value ∙ outside)) c.commit.ensures.ended stays (λ clean. done clean w fits (held_begun (version_of c.args.version) w old has)) back c.commit.ensures.survives _ _ c.from_residual-in_err-commit.ensures.1)
 
 pub returns-in_err-migrate_all-clause-makes : goal.returns-in_err-migrate_all-clause-makes
 returns-in_err-migrate_all-clause-makes g c = λ w fits has.

@@ -19,7 +19,7 @@ pub returns-clause-reads : goal.returns-clause-reads
 returns-clause-reads g c =
     reads _ _ _ c.in_ok-found.ensures.stays c.in_ok-found.ensures.shown _ (λ clean w can has.
     let it = reads_job_at (state g.S.Store c.args.tx.now.conn.now) (state g.S.Store c.select_inside.new.tx.conn.now) c.args.number c.in_ok-found.found.items w can.0 has (rw (c.params-to_sql.ensures) at (c.in_ok-found.ensures.shown clean)) in (
-      found_some c.numbers_tell_names.ensures.phases c.numbers_tell_names.ensures.flags c.in_ok-found.found.items c.in-Some.row.now c.in_ok-job-in-Some.job (job_at c.args.number (rows w)) (search rules)
+      found_some c.numbers_tell_names.ensures.courses c.numbers_tell_names.ensures.flags c.in_ok-found.found.items c.in-Some.row.now c.in_ok-job-in-Some.job (job_at c.args.number (rows w)) (search rules)
           c.in_ok-job-in-Some.ensures.ok c.in_ok-job-in-Some.ensures.bare it.0,
       it.1,
     ))

@@ -1,4 +1,4 @@
-use Rattle.std.proofs.Common.{rules, arith, ◌≡◌, Ok, Err, Bool, true, false, cond, Result, IsOkAnd, is_ok, ap, refl, ◌∙◌}
+use Rattle.std.proofs.Common.{rules, arith, ◌≡◌, Ok, Err, Bool, true, false, cond, Result, is_ok, ap, refl, ◌∙◌}
 use Rattle.std.proofs.lemmas.Grind.{common_steps}
 use Rattle.std.proofs.lemmas.Result.{IfOk-weaker}
 use Rattle.hex.specs.Hex.{decode_of}

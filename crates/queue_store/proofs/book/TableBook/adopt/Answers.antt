@@ -17,6 +17,6 @@ pub returns-in-Err-clause-damaged : goal.returns-in-Err-clause-damaged
 returns-in-Err-clause-damaged g c = λ fits clean told. c.in-Err.ensures.damaged fits clean (told_damaged c.in-Err.fault (sym c.from.ensures ∙ told))
 
 pub returns-in-Ok-clause-newest : goal.returns-in-Ok-clause-newest
-returns-in-Ok-clause-newest g c = λ is honest.
+returns-in-Ok-clause-newest g c = λ is causes honest.
     let clean = was_clean g.S.Store c.over.result c.settings_in_newest.new.conn c.over.ensures.lifted honest in
-    adopted_leaves g.S.Store c.over.result c.settings_in_newest.new.conn c.over.ensures.lifted (state g.S.Store c.args.conn) (c.settings_in_newest.ensures.newest is clean)
+    adopted_leaves g.S.Store c.over.result c.settings_in_newest.new.conn c.over.ensures.lifted (state g.S.Store c.args.conn) (c.settings_in_newest.ensures.newest is causes clean)

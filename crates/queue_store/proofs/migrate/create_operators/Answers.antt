@@ -1,0 +1,8 @@
+use Rattle.sqlite.specs.Held.{state}
+use Rattle.queue_store.proofs.Taken.{makes_operators}
+use Rattle.queue_tables.proofs.Ending.{on_ok}
+use Rattle.queue_store.proofs.migrate.create_operators.Goals as goal
+
+pub returns-clause-done : goal.returns-clause-done
+returns-clause-done g c clean =
+    on_ok c.run.result _ _ (λ ran content has. makes_operators (state g.S.Store c.args.tx.now.conn.now) (state g.S.Store c.run.new.tx.conn.now) ran.0 content has ran.1) (c.run.ensures.ran clean)
