@@ -14,6 +14,7 @@ pub mod Forms
 pub mod Maps
 pub mod Reported
 pub mod Within
+pub mod Changed
 pub mod Steps
 pub mod Runs
 pub mod Start

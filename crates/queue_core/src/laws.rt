@@ -36,11 +36,14 @@ pub fn empty_is_sound()
     ensures { (s : SettingValues) → AreSettings s → IsSound (empty_queue s) }
 {}
 
-/// By a decision on a sound world each job becomes one within the limits, a document is of one of these jobs, and the world that
-/// it makes is sound; its grants are under batches and accounts that have none.
+/// A decision on a sound world changes each job once, in the order of their numbers, and each becomes one within the limits. A document is of
+/// one of these jobs. The world that the decision makes is sound, and its jobs have moved along the allowed pairs. Its grants are under batches and
+/// accounts that have none.
 pub fn decisions_are_sound()
     ensures within { (w : World) (d : Decision) → IsSound w → IsDecisionOn w d → IsSoundChange d.change }
     ensures made { (w : World) (d : Decision) → IsSound w → IsDecisionOn w d → IsSound (made_on d.change w) }
+    ensures moves { (w : World) (d : Decision) → IsSound w → IsDecisionOn w d → MovesAlong w (made_on d.change w) }
+    ensures rising { (w : World) (d : Decision) → IsSound w → IsDecisionOn w d → AreRising d.change.jobs }
     ensures new_grants { (w : World) (d : Decision) → IsSound w → IsDecisionOn w d → AreNew w.grants d.change.grants }
 {}
 
