@@ -8,11 +8,11 @@ taken before are repeats.
 
 Example, where the server is the systemd unit `printd`:
 
-    sudo examples/import-allowances --user printd --store /var/lib/printd/queue.db allowances.csv
+    sudo tools/import_allowances.py --user printd --store /var/lib/printd/queue.db allowances.csv
 
 Without systemd, say how the server is stopped and started:
 
-    examples/import-allowances --printd crates/printd/out/printd --store queue.db --stop 'p=$(cat printd.pid); kill "$p" && tail --pid="$p" -f /dev/null' --start './start-printd' allowances.csv
+    tools/import_allowances.py --printd crates/printd/out/printd --store queue.db --stop 'p=$(cat printd.pid); kill "$p" && tail --pid="$p" -f /dev/null' --start './start-printd' allowances.csv
 
 (Name the program itself there and not the launcher ./printd, which may prove and build it first, while the server is stopped.)
 

@@ -2,7 +2,7 @@
 """Measures `printd replay`: requests and reports a second, and peak memory, on input that it makes itself.
 
 It prints figures and judges nothing. A peak below that of this script itself, some 20 MiB, does not show. Run it as
-`bench/replay` at the top of the repository; the program has to be built (`./printd replay </dev/null` does that).
+`bench/replay.py` at the top of the repository; the program has to be built (`./printd replay </dev/null` does that).
 """
 import argparse
 import os
@@ -11,7 +11,7 @@ import sys
 import tempfile
 import time
 
-sys.path.insert(0, os.path.dirname(os.path.abspath(__file__)))
+sys.path.insert(0, os.path.join(os.path.dirname(os.path.dirname(os.path.abspath(__file__))), "tests"))
 
 from common import PROGRAM  # noqa: E402
 from ipp import (  # noqa: E402
@@ -79,7 +79,7 @@ def run(requests):
         _, status, usage = os.wait4(process.pid, 0)
         seconds = time.monotonic() - begin
         if os.waitstatus_to_exitcode(status) != 0:
-            sys.exit("bench/replay: the program ended with another status than 0")
+            sys.exit("bench/replay.py: the program ended with another status than 0")
         answers.seek(0)
         taken = sum(1 for line in answers if is_taken(line))
     return count, taken, seconds, usage.ru_maxrss / 1024
@@ -107,12 +107,12 @@ def run_parts(*parts):
         process = subprocess.Popen([PROGRAM, "replay"], stdin=source, stdout=subprocess.PIPE)
         for place, answer in enumerate(process.stdout, 1):
             if not is_taken(answer):
-                sys.exit(f"bench/replay: line {place} was not taken: {answer.decode()}")
+                sys.exit(f"bench/replay.py: line {place} was not taken: {answer.decode()}")
             if place == ends[len(moments) - 1]:
                 moments.append(time.monotonic())
         _, _, usage = os.wait4(process.pid, 0)
         if len(moments) <= len(parts):
-            sys.exit("bench/replay: answers are missing")
+            sys.exit("bench/replay.py: answers are missing")
     return [after - before for before, after in zip(moments, moments[1:])], usage.ru_maxrss / 1024
 
 
@@ -192,7 +192,7 @@ def measure_behind(ended):
 def main():
     argparse.ArgumentParser(description=__doc__, formatter_class=argparse.RawDescriptionHelpFormatter).parse_args()
     if not os.path.exists(PROGRAM):
-        sys.exit("bench/replay: build the program first: ./printd replay </dev/null")
+        sys.exit("bench/replay.py: build the program first: ./printd replay </dev/null")
     for count in (1000, 20000):
         measure(
             f"small jobs, the first {count} of 200 callers",

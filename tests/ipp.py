@@ -1,6 +1,6 @@
 """IPP messages, built record by record from the documents alone: RFC 8010, section 3.1, and docs/protocol.md.
 
-It shares no code with the server. The worked examples (bench/cases) and the second queue (bench/compare) are written with it.
+It shares no code with the server. The worked examples (tests/cases.py) and the second queue (tests/compare.py) are written with it.
 """
 from dataclasses import dataclass
 

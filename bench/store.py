@@ -15,7 +15,7 @@ once in stores of their own (--held says other numbers): the time, the memory, a
 In the end an operator's lists are measured beside 100,000 ended jobs of 1,000 owners (--shown says other numbers): the first ten jobs, completed and not,
 and all of them, with the memory that one such list takes.
 
-Run it as `bench/store [JOBS ..]` at the top of the repository; other numbers of ended jobs may be given. It builds the program in a repository of its own in a
+Run it as `bench/store.py [JOBS ..]` at the top of the repository; other numbers of ended jobs may be given. It builds the program in a repository of its own in a
 temporary folder, over copies of the crates that stand there proved (`./printd replay </dev/null` does that); this takes some minutes. With --program it
 takes one that is built already.
 """
@@ -28,7 +28,7 @@ import subprocess
 import sys
 import tempfile
 
-sys.path.insert(0, os.path.dirname(os.path.abspath(__file__)))
+sys.path.insert(0, os.path.join(os.path.dirname(os.path.dirname(os.path.abspath(__file__))), "tests"))
 
 from common import build  # noqa: E402
 from ipp import (  # noqa: E402
@@ -359,7 +359,7 @@ class Run:
             process = subprocess.Popen([self.program, *words], stdin=subprocess.DEVNULL, stdout=told)
             _, status, usage = os.wait4(process.pid, 0)
             if os.waitstatus_to_exitcode(status) != 0:
-                sys.exit(f"bench/store: the program has failed: {' '.join(words)}")
+                sys.exit(f"bench/store.py: the program has failed: {' '.join(words)}")
             told.seek(0)
             return [int(word) for word in told.read().split()], usage.ru_maxrss / 1024
 
@@ -499,7 +499,7 @@ def main():
     if any(number < 1 for number in [*chosen.held, *chosen.shown]):
         words.error("--held and --shown are at least 1")
     if chosen.program is None and shutil.which("rt") is None:
-        sys.exit("bench/store: the toolchain's command rt is not on the PATH")
+        sys.exit("bench/store.py: the toolchain's command rt is not on the PATH")
     with tempfile.TemporaryDirectory() as building:
         program = chosen.program or build(building, "storing", CRATES, LIBRARIES, TEXT)
         for ended in chosen.jobs:

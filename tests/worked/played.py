@@ -1,4 +1,4 @@
-"""Examples whose answers come from the second queue (bench/second), which is written from the documents alone."""
+"""Examples whose answers come from the second queue (tests/second), which is written from the documents alone."""
 import second.replay
 from ipp import CANCEL_JOB, CREATE_JOB, GET_JOB_ATTRIBUTES, HOLD_JOB, INTEGER, PRINT_JOB, RELEASE_JOB, job_request, octets, record, request
 from worked.case import FIRST_REQUEST_ID, line, replay, wants

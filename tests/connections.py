@@ -1,5 +1,5 @@
 #!/usr/bin/env python3
-"""Compares `printd serve` with a second server, written from the documents alone (bench/second), over real connections.
+"""Compares `printd serve` with a second server, written from the documents alone (tests/second), over real connections.
 
 It makes a store, imports account files, and serves random connections: good and crooked requests by HTTP, one behind the other, with chunks, odd
 spellings of heads, random messages and lines of the device in them, cut and flipped bytes; each is sent in pieces of random lengths. The second server answers the
@@ -7,7 +7,7 @@ same bytes, and the answers are compared byte for byte; so are the counts that t
 of sweeps and of operators, and at the end the statement of each account and the moments of all jobs. Between the rounds of a run the server ends, and is
 started again on its store, often with other operators. Some stores keep a held job only for a few seconds: then it expires before the next connection is served.
 
-Run it as `bench/connections [RUNS [FIRST]]` at the top of the repository; the program has to be built (`./printd --help` does that). It ends with
+Run it as `tests/connections.py [RUNS [FIRST]]` at the top of the repository; the program has to be built (`./printd --help` does that). It ends with
 status 1 at the first thing that differs, and shows it.
 """
 import argparse
@@ -77,7 +77,7 @@ class Server:
         line = self.process.stdout.readline()
         if line != b"listening 127.0.0.1:%d\n" % self.port:
             self.process.kill()
-            sys.exit(f"bench/connections: instead of listening: {line}")
+            sys.exit(f"tests/connections.py: instead of listening: {line}")
 
     def __enter__(self):
         return self
@@ -105,7 +105,7 @@ class Server:
         """The lines that were printed of the connections."""
         lines, _ = self.process.communicate(timeout=60)
         if self.process.returncode != 0:
-            sys.exit(f"bench/connections: the server ended with status {self.process.returncode}")
+            sys.exit(f"tests/connections.py: the server ended with status {self.process.returncode}")
         return lines
 
 
@@ -151,7 +151,7 @@ class Run:
         before = int(time.time())
         printed = command("init", "--store", self.store, "--uri", ipp.PRINTER, "--name", "release", "--keep", str(self.seconds))
         if printed:
-            sys.exit(f"bench/connections: init printed {printed}")
+            sys.exit(f"tests/connections.py: init printed {printed}")
         if int(time.time()) == before:
             self.epoch = before
         else:
@@ -249,7 +249,7 @@ def main():
     if asked.runs < 1:
         words.error("RUNS is at least 1")
     if not os.path.exists(PROGRAM):
-        sys.exit("bench/connections: build the program first: ./printd --help")
+        sys.exit("tests/connections.py: build the program first: ./printd --help")
     kinds = collections.Counter()
     with tempfile.TemporaryDirectory() as folder:
         for seed in range(asked.first, asked.first + asked.runs):

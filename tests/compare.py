@@ -1,10 +1,10 @@
 #!/usr/bin/env python3
-"""Compares `printd replay` with a second print queue, written from the protocol's documents alone (bench/second).
+"""Compares `printd replay` with a second print queue, written from the protocol's documents alone (tests/second).
 
 It makes random requests of several callers, one of them an operator, many of them crooked: wrong tags, numbers of values and forms, cut and flipped
 bytes, second groups, names that come again, other versions, operations and request-ids, collections. Among them stand requests
 that fit the jobs as they are, lines of the device, account files and sweeps. It answers all by the second queue, runs the program over
-them, and compares the answers byte for byte. Run it as `bench/compare [RUNS [FIRST]]`
+them, and compares the answers byte for byte. Run it as `tests/compare.py [RUNS [FIRST]]`
 at the top of the repository; the program has to be built (`./printd replay </dev/null` does that). It ends with status 1 at
 the first answer that differs, and prints the request and both answers.
 """
@@ -80,7 +80,7 @@ def main():
     if asked.runs < 1:
         words.error("RUNS is at least 1")
     if not os.path.exists(PROGRAM):
-        sys.exit("bench/compare: build the program first: ./printd replay </dev/null")
+        sys.exit("tests/compare.py: build the program first: ./printd replay </dev/null")
     kinds = collections.Counter()
     for seed in range(asked.first, asked.first + asked.runs):
         compare(seed, kinds)

@@ -16,7 +16,7 @@ those from 1000000001 (--first-sequence). Two that give the same numbers would b
 
 Example, against a server on port 8631, until no job waits:
 
-    examples/device --server http://127.0.0.1:8631 --folder printed --once
+    tools/device.py --server http://127.0.0.1:8631 --folder printed --once
 
 With a command of one's own. Its last argument is the document's file; the environment has JOB, DOCUMENT, COPIES and FORMAT. If the
 last line that it prints is a number of up to nine digits, that is how many pages it printed, all copies together; else each copy
@@ -25,7 +25,7 @@ document counts as its last line says, without a number as 0. A command that run
 At 126 and 127, by which the shell tells that it can't run the command, and where no page was counted, the device ends, and takes the job
 up again when it is started; the third time in a row that fails the job, as a document may have brought it about:
 
-    examples/device --command 'lp -d floor2 -n "$COPIES"'
+    tools/device.py --command 'lp -d floor2 -n "$COPIES"'
 """
 import argparse
 import contextlib

@@ -3,13 +3,13 @@
 
 Examples, against a server on port 8631:
 
-    examples/release-station alice                  shows the jobs, then asks what to do
-    examples/release-station alice list
-    examples/release-station alice release 3 4
-    examples/release-station alice release all
-    examples/release-station alice cancel 5
-    examples/release-station carol list all         shows everybody's jobs with their owners, if carol is an operator
-    examples/release-station carol cancel 7         an operator may cancel any job
+    tools/release_station.py alice                  shows the jobs, then asks what to do
+    tools/release_station.py alice list
+    tools/release_station.py alice release 3 4
+    tools/release_station.py alice release all
+    tools/release_station.py alice cancel 5
+    tools/release_station.py carol list all         shows everybody's jobs with their owners, if carol is an operator
+    tools/release_station.py carol cancel 7         an operator may cancel any job
 
 The status is 0 where everything that was asked was done, 130 at Ctrl-C, 2 where the words are wrong, else 1.
 Where the station asks, it is 0 once it was left.
@@ -26,7 +26,7 @@ from collections.abc import Callable
 from typing import Optional
 
 # the module is in a clone's tools/lib, or where tools/cups-gateway/setup has put it
-sys.path[:0] = [os.path.join(os.path.dirname(os.path.realpath(__file__)), "..", "tools", "lib"), "/usr/local/lib/print-release"]
+sys.path[:0] = [os.path.join(os.path.dirname(os.path.realpath(__file__)), "lib"), "/usr/local/lib/print-release"]
 try:
     import ipp
     from ipp import JobState, Operation, Status, Tag

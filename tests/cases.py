@@ -1,9 +1,9 @@
 #!/usr/bin/env python3
-"""Makes the worked examples of crates/replay_cases from the documents alone (bench/worked), never from the program.
+"""Makes the worked examples of crates/replay_cases from the documents alone (tests/worked), never from the program.
 
 Most are spelled by hand; of those that reach every corner the answers come from a second queue that is written from the documents
-alone (bench/second). `bench/cases` sees that the second queue answers the others as they are spelled, compares the files stdin
-and stdout of that crate with the examples, and ends with status 1 where anything differs; `bench/cases write` writes them. The
+alone (tests/second). `tests/cases.py` sees that the second queue answers the others as they are spelled, compares the files stdin
+and stdout of that crate with the examples, and ends with status 1 where anything differs; `tests/cases.py write` writes them. The
 gate runs the crate's program over stdin; docs/tests.md says how an example that fails is shown.
 """
 import argparse
@@ -11,7 +11,7 @@ import os
 import sys
 
 TOP = os.path.dirname(os.path.dirname(os.path.abspath(__file__)))
-sys.path.insert(0, os.path.join(TOP, "bench"))
+sys.path.insert(0, os.path.join(TOP, "tests"))
 
 from second.replay import replay  # noqa: E402
 from worked import accounts, attributes, checks, device, documents, jobs, limits, lines, messages, others, printer  # noqa: E402, F401
@@ -19,6 +19,7 @@ from worked import drawn, expiry, most, names, operators, order, states, tags  #
 from worked.case import CASES  # noqa: E402
 
 PLACE = os.path.join(TOP, "crates", "replay_cases")
+# The crate has this line as it is: another one would change the input of its program.
 TITLE = b"Worked examples, written by `bench/cases write`: change them in bench/worked.\n"
 
 
@@ -27,10 +28,10 @@ def main():
     words.add_argument("word", nargs="?", choices=["write"], help="write the files, and don't compare them")
     is_written = words.parse_args().word == "write"
     if not __debug__:
-        sys.exit("bench/cases: the examples are guarded by asserts: run it without -O and PYTHONOPTIMIZE")
+        sys.exit("tests/cases.py: the examples are guarded by asserts: run it without -O and PYTHONOPTIMIZE")
     for name, text, wanted, status in CASES:
         if replay(text) != (wanted, status):
-            sys.exit(f"bench/cases: the second queue answers another thing than is wanted: {name}")
+            sys.exit(f"tests/cases.py: the second queue answers another thing than is wanted: {name}")
     files = {
         "stdin": TITLE
         + b"".join(
@@ -46,7 +47,7 @@ def main():
         else:
             with open(path, "rb") as file:
                 if file.read() != content:
-                    sys.exit(f"bench/cases: {path} differs from what bench/worked says")
+                    sys.exit(f"tests/cases.py: {path} differs from what tests/worked says")
     print(f"{len(CASES)} examples")
 
 

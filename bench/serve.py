@@ -4,7 +4,7 @@ request that is full of empty groups, and one that is full of attributes that it
 
 It makes a store of its own, serves it by `printd serve`, and prints figures; it judges nothing. The requests go over one kept
 connection after another, 32 on each, one at a time: so a figure is what one client gets, and the time of this script is in it. Run it as
-`bench/serve` at the top of the repository; the program has to be built (`./printd --help` does that).
+`bench/serve.py` at the top of the repository; the program has to be built (`./printd --help` does that).
 
 With --port it measures a server that already runs, and --pid tells whose memory is looked at. Never take one whose store is in use, or
 that a device asks: each job stays in its store for good, canceled, and so do the bytes of the large documents. The account `bench-0` needs
@@ -21,7 +21,7 @@ import sys
 import tempfile
 import time
 
-sys.path.insert(0, os.path.dirname(os.path.abspath(__file__)))
+sys.path.insert(0, os.path.join(os.path.dirname(os.path.dirname(os.path.abspath(__file__))), "tests"))
 
 from common import PROGRAM, free_port  # noqa: E402
 from ipp import (  # noqa: E402
@@ -61,7 +61,7 @@ class Client:
         fields, _, begun = answer.partition(b"\r\n\r\n")
         lines = fields.split(b"\r\n")
         if not lines[0].startswith(b"HTTP/1.1 200 "):
-            sys.exit(f"bench/serve: {lines[0].decode()}")
+            sys.exit(f"bench/serve.py: {lines[0].decode()}")
         length = next(int(line[15:]) for line in lines if line.lower().startswith(b"content-length:"))
         pieces, come = [begun], len(begun)
         while come < length:
@@ -77,7 +77,7 @@ class Client:
     def received(self):
         data = self.socket.recv(1 << 20)
         if not data:
-            sys.exit("bench/serve: the server has closed a connection too early")
+            sys.exit("bench/serve.py: the server has closed a connection too early")
         return data
 
     def post(self, message, number):
@@ -86,7 +86,7 @@ class Client:
         head = f"POST /ipp/print HTTP/1.1\r\nContent-Type: application/ipp\r\nContent-Length: {len(body)}\r\n\r\n"
         reply = self.exchange(head.encode(), body)
         if reply[2:4] not in (b"\x00\x00", b"\x00\x01"):
-            sys.exit(f"bench/serve: status 0x{reply[2:4].hex()}")
+            sys.exit(f"bench/serve.py: status 0x{reply[2:4].hex()}")
         return reply
 
     def get(self, path):
@@ -157,7 +157,7 @@ def measure(port, count, times):
     fetched = []
     moved("document out", LARGE, times, lambda n: fetched.append(client.get(f"/device/document/{large[n]}/1") == document))
     if not all(fetched):
-        sys.exit("bench/serve: a document came back changed")
+        sys.exit("bench/serve.py: a document came back changed")
     for number, job in enumerate(large):
         client.post(job_request(CANCEL_JOB, job, caller="bench-0"), number + 1)
     client.close()
@@ -206,7 +206,7 @@ def serve(program, folder, callers):
     process = subprocess.Popen([program, *words], stdout=subprocess.PIPE)
     if not process.stdout.readline().startswith(b"listening "):
         process.kill()
-        sys.exit("bench/serve: the server does not listen")
+        sys.exit("bench/serve.py: the server does not listen")
     return process, port
 
 
@@ -234,7 +234,7 @@ def main():
             measure_memory(words.port, words.pid)
         return
     if shutil.which(words.program) is None:
-        sys.exit(f"bench/serve: build {words.program} first: ./printd --help")
+        sys.exit(f"bench/serve.py: build {words.program} first: ./printd --help")
     with tempfile.TemporaryDirectory(dir=words.folder) as folder:
         process, port = serve(words.program, folder, 1 + words.requests // LIVE_JOBS)
         reader = drained(process)

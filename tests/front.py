@@ -1,9 +1,9 @@
 #!/usr/bin/env python3
 """Tries the gateway that tools/cups-gateway/setup puts in place, from `lp` to the statement: with real cupsd, PAM, nginx and filters.
 
-    sudo tests/front                     all tests; the last line is `N passed, M failed`
-    sudo tests/front -k jam -k forged    those whose names have one of these words
-    sudo tests/front --transcript        shows at the end what a user and the office see of a job, as the guide has it
+    sudo tests/front.py                     all tests; the last line is `N passed, M failed`
+    sudo tests/front.py -k jam -k forged    those whose names have one of these words
+    sudo tests/front.py --transcript        shows at the end what a user and the office see of a job, as the guide has it
 
 It runs on a copy of this machine that it throws away: in namespaces of its own for mounts, processes and the network, which has only
 loopback, with a layer in memory above the machine's files. So it needs root, and changes nothing. The printer is a small program

@@ -2,7 +2,7 @@
 """Measures the import of account files of 1,000, 100,000 and 1,000,000 rows into the queue in memory.
 
 Each file is imported into an empty book, and then into a book that has as many grants already, to the same accounts under
-another batch. It prints figures and judges nothing. Run it as `bench/import [ROWS ..]` at the top of the repository; other
+another batch. It prints figures and judges nothing. Run it as `bench/import.py [ROWS ..]` at the top of the repository; other
 numbers of rows may be given. It builds a small program, whose text stands below, in a repository of its own in a temporary folder,
 over copies of the crates that it stands on; what `./printd` and `rt check` in crates/list_book have proved is not proved again.
 With both proved this takes a minute or so.
@@ -15,7 +15,7 @@ import sys
 import tempfile
 import time
 
-sys.path.insert(0, os.path.dirname(os.path.abspath(__file__)))
+sys.path.insert(0, os.path.join(os.path.dirname(os.path.dirname(os.path.abspath(__file__))), "tests"))
 
 from common import build  # noqa: E402
 
@@ -73,7 +73,7 @@ def write_file(path, batch, rows):
         file.write("batch,account,pages\n")
         file.writelines(f"{batch},u{row},1\n" for row in range(rows))
     if os.path.getsize(path) > LONGEST:
-        sys.exit(f"bench/import: a file of {rows} rows is longer than {LONGEST} bytes")
+        sys.exit(f"bench/import.py: a file of {rows} rows is longer than {LONGEST} bytes")
 
 
 def run(program, rows, *files):
@@ -85,7 +85,7 @@ def run(program, rows, *files):
         seconds = time.monotonic() - begin
         answers.seek(0)
         if os.waitstatus_to_exitcode(status) != 0 or answers.read() != b"added %d repeats 0\n" % rows * len(files):
-            sys.exit("bench/import: not all rows were taken")
+            sys.exit("bench/import.py: not all rows were taken")
     return seconds, usage.ru_maxrss / 1024
 
 
@@ -111,7 +111,7 @@ def main():
     if min(numbers) < 1:
         words.error("ROWS is at least 1")
     if shutil.which("rt") is None:
-        sys.exit("bench/import: the toolchain's command rt is not on the PATH")
+        sys.exit("bench/import.py: the toolchain's command rt is not on the PATH")
     with tempfile.TemporaryDirectory() as folder:
         program = build(folder, "importing", CRATES, ("anyhow",), TEXT)
         for rows in numbers:

@@ -1,10 +1,10 @@
 #!/usr/bin/env python3
 """Refuses a print server each of its allocations in turn, and sees that want of memory is told for what it is and changes nothing.
 
-bench/refuse.c is loaded before the C library. It counts the program's allocations and refuses one of them: the k-th from where an
+tests/refuse.c is loaded before the C library. It counts the program's allocations and refuses one of them: the k-th from where an
 event begins, for k = 1, 2, 3 .. until the event comes to its end with none refused. Each time that one was, the answer has to be the
 fault's own, and the same event is handed in once more; in the end its answer has to be the one that is wanted, and so has that of each
-event behind it. What is wanted comes from bench/worked and bench/second, never from the program.
+event behind it. What is wanted comes from tests/worked and tests/second, never from the program.
 
 - replay: the lines of worked examples, over tables in memory. An IPP request is answered by the bare 0x0505, a line of the device by
   `refused 6 fault`, a row of an account file by `grant refused 6`, a sweep by `expire refused`, or the program ends with `printd: memory`;
@@ -16,7 +16,7 @@ event behind it. What is wanted comes from bench/worked and bench/second, never 
   `printd: memory`, or `printd: import fault 6 at row 0`.
 
 Where a line, a request or a command is refused before the queue is asked, a fault is no answer. Whatever is not as it should be is
-printed, and the status is 1. Run it as `bench/memory [PART ..]` at the top of the repository, with a C compiler (`cc`) on the PATH and
+printed, and the status is 1. Run it as `tests/memory.py [PART ..]` at the top of the repository, with a C compiler (`cc`) on the PATH and
 the programs built: `./printd --help`, and for `lists` also `rt run` in crates/replay_cases.
 """
 import argparse
@@ -78,7 +78,7 @@ class Bad(Exception):
 
 
 class Page:
-    """The two numbers that bench/refuse.c reads and writes: how many allocations there were, and which is refused."""
+    """The two numbers that tests/refuse.c reads and writes: how many allocations there were, and which is refused."""
 
     def __init__(self, folder):
         self.path = os.path.join(folder, "page")
@@ -87,7 +87,7 @@ class Page:
         with open(self.path, "r+b") as file:
             self.numbers = mmap.mmap(file.fileno(), 16)
         library = os.path.join(folder, "refuse.so")
-        source = os.path.join(TOP, "bench", "refuse.c")
+        source = os.path.join(TOP, "tests", "refuse.c")
         subprocess.run([os.environ.get("CC", "cc"), "-shared", "-fPIC", "-O1", "-o", library, source], check=True)
         self.environment = {**os.environ, "LD_PRELOAD": library, "REFUSE_PAGE": self.path}
 
@@ -246,7 +246,7 @@ def sweep_replay(program, page, are_all):
     try:
         refuse_at_start(program, page, tally)
     except Bad as bad:
-        sys.exit(f"bench/memory: {bad}")
+        sys.exit(f"tests/memory.py: {bad}")
     for name, given in examples(are_all):
         try:
             replay = Lines(program, page)
@@ -261,7 +261,7 @@ def sweep_replay(program, page, are_all):
             if replay.end() != (0, "", ""):
                 raise Bad("the end of the lines")
         except Bad as bad:
-            sys.exit(f"bench/memory: {name}: {bad}")
+            sys.exit(f"tests/memory.py: {name}: {bad}")
     tally.tell(f"the start and {count} lines")
 
 
@@ -360,7 +360,7 @@ def sweep_lists(program, page, folder, are_all):
         try:
             refuse_in_lists(cases, given, tally)
         except Bad as bad:
-            sys.exit(f"bench/memory: {name}: over lists: {bad}")
+            sys.exit(f"tests/memory.py: {name}: over lists: {bad}")
         count += len(given)
     tally.tell(f"{count} lines")
 
@@ -520,7 +520,7 @@ def sweep_commands(program, page, folder):
                 sweep_command(store, tally, words, (0, told, ""), [ENDED], functools.partial(look_at_older, count))
                 store.put_back()
     except Bad as bad:
-        sys.exit(f"bench/memory: commands: {bad}")
+        sys.exit(f"tests/memory.py: commands: {bad}")
     tally.tell("init, import, statement, operators and expire")
 
 
@@ -736,7 +736,7 @@ def sweep_serve(program, page, folder):
         event = "start"
         sweep_start(store, tally)
     except Bad as bad:
-        sys.exit(f"bench/memory: serve: {event}: {bad}")
+        sys.exit(f"tests/memory.py: serve: {event}: {bad}")
     finally:
         server.stop()
     tally.tell(f"{len(EVENTS)} requests and the start")
@@ -757,9 +757,9 @@ def main():
     for part in chosen:
         path, how = (words.cases, "cd crates/replay_cases && rt run </dev/null") if part == "lists" else (words.program, "./printd --help")
         if not os.path.exists(path):
-            sys.exit(f"bench/memory: build {path} first: {how}")
+            sys.exit(f"tests/memory.py: build {path} first: {how}")
     if shutil.which(os.environ.get("CC", "cc")) is None:
-        sys.exit("bench/memory: no C compiler is on the PATH: cc, or what CC names")
+        sys.exit("tests/memory.py: no C compiler is on the PATH: cc, or what CC names")
     # in memory where there is such a place: the stores are synced a hundred thousand times
     place = "/dev/shm" if os.path.isdir("/dev/shm") else None
     with tempfile.TemporaryDirectory(dir=place) as folder:

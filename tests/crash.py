@@ -17,7 +17,7 @@ also takes the first account file once more. What holds anything else is left in
 A store with the tables of an earlier release is also opened under a limit on the bytes of a file, for each limit that is too low: the program answers
 `printd: disk`, and without the limit it opens the store to the same queue.
 
-Run it as `bench/crash` at the top of the repository, with strace installed and the program built (`./printd --help` does that).
+Run it as `tests/crash.py` at the top of the repository, with strace installed and the program built (`./printd --help` does that).
 """
 import argparse
 import os
@@ -217,11 +217,11 @@ class Trace:
         with subprocess.Popen(self.words(words), stdout=subprocess.PIPE) as process:
             try:
                 if not process.stdout.readline().startswith(b"listening "):
-                    sys.exit("bench/crash: the server does not listen")
+                    sys.exit("tests/crash.py: the server does not listen")
                 for number, one in enumerate(asked):
                     answer = exchange(port, one)
                     if not is_done(answer):
-                        sys.exit(f"bench/crash: request {number} is answered by {answer}")
+                        sys.exit(f"tests/crash.py: request {number} is answered by {answer}")
                 process.stdout.read()
             except BaseException:
                 # it would wait for the rest of its connections
@@ -319,7 +319,7 @@ class Disk:
         elif call == "ftruncate":
             file.since.append((int(arguments.rsplit(",", 1)[1]), None))
         else:
-            sys.exit(f"bench/crash: what {call} makes of a file isn't known here")
+            sys.exit(f"tests/crash.py: what {call} makes of a file isn't known here")
         return True
 
     def change_name(self, call, arguments, path):
@@ -359,7 +359,7 @@ class Look:
         """A request was answered: what these files hold is the queue after it."""
         self.program.put(files)
         if not self.program.opens():
-            sys.exit("bench/crash: a store can't be opened without any failure")
+            sys.exit("tests/crash.py: a store can't be opened without any failure")
         self.queues.append(self.program.tables())
 
     def is_well(self, answered, files):
@@ -388,7 +388,7 @@ def set_operators(program: Program, trace: Trace, *names: str) -> None:
     """Sets the operators of the store."""
     told = trace.command(program.words("operators", *names))
     if told != b"operators %d\n" % len(names):
-        sys.exit(f"bench/crash: the operators are answered by {told}")
+        sys.exit(f"tests/crash.py: the operators are answered by {told}")
 
 
 def traced(program: Program, folder: str) -> list:
@@ -406,7 +406,7 @@ def traced(program: Program, folder: str) -> list:
     time.sleep(SECONDS)
     expired = trace.command(program.words("expire"))
     if expired != b"expired 2\n":
-        sys.exit(f"bench/crash: a sweep is answered by {expired}")
+        sys.exit(f"tests/crash.py: a sweep is answered by {expired}")
     return trace.calls
 
 
@@ -476,9 +476,9 @@ def main():
     if words.images < 0:
         parser.error("--images is at least 0")
     if shutil.which("strace") is None:
-        sys.exit("bench/crash: the command strace is not on the PATH")
+        sys.exit("tests/crash.py: the command strace is not on the PATH")
     if shutil.which(words.program) is None:
-        sys.exit(f"bench/crash: build {words.program} first: ./printd --help")
+        sys.exit(f"tests/crash.py: build {words.program} first: ./printd --help")
     with tempfile.TemporaryDirectory() as folder:
         program, chance = Program(words.program, os.path.join(folder, "store")), random.Random(words.seed)
         os.mkdir(program.folder)
