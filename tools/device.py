@@ -27,6 +27,8 @@ up again when it is started; the third time in a row that fails the job, as a do
 
     tools/device.py --command 'lp -d floor2 -n "$COPIES"'
 """
+from __future__ import annotations
+
 import argparse
 import contextlib
 import fcntl
@@ -44,6 +46,9 @@ import sys
 import tempfile
 import time
 import urllib.parse
+from collections.abc import Callable, Mapping
+from types import FrameType, TracebackType
+from typing import NoReturn, Optional, TypedDict, cast
 
 # How long to wait for the server's answer. Other clients may hold it up for longer; then the exchange is tried again, which does no
 # harm, as a report that comes twice counts once.
@@ -86,14 +91,30 @@ TYPE_SUFFIXES = {
 }
 
 
+# Prints a document: job, document, copies, media type, content. It returns how many pages were printed.
+Printer = Callable[[str, int, int, str, bytes], int]
+
+
+class Entry(TypedDict):
+    """A job in the journal: how far it has come, and the report that was kept last."""
+
+    copies: int
+    documents: int
+    done: int
+    pages: int
+    sequence: int
+    kind: str
+    tries: int
+
+
 class Gone(Exception):
     """The server has no such document any more."""
 
 
 class Failed(Exception):
-    """A document can't be printed, or not to its end: so many pages of it came out."""
+    """A document can't be printed, or not to its end. It has the number of pages that came out."""
 
-    def __init__(self, reason, pages=0):
+    def __init__(self, reason: str, pages: int = 0):
         super().__init__(reason)
         self.pages = pages
 
@@ -102,7 +123,7 @@ class NotRun(Exception):
     """The command can't be run. That need be no fault of the document's."""
 
 
-def is_entry(number, job):
+def is_entry(number: str, job: object) -> bool:
     """Whether a job and what is kept of it have the form that the journal gives them."""
     return (
         number.isascii() and number.isdigit() and isinstance(job, dict)
@@ -111,11 +132,11 @@ def is_entry(number, job):
     )
 
 
-def say(text):
+def say(text: str) -> None:
     print(text, flush=True)
 
 
-def sync_folder(path):
+def sync_folder(path: str) -> None:
     """Brings to the disk which files a folder has."""
     folder = os.open(path, os.O_RDONLY)
     try:
@@ -127,25 +148,26 @@ def sync_folder(path):
 class Signals:
     """What ends the device: by an exception, at once, or while it prints as soon as what came of it is kept."""
 
-    def __init__(self):
-        self.came, self.are_held, self.latest = None, False, math.inf
+    def __init__(self) -> None:
+        self.came: int | None = None
+        self.are_held, self.latest = False, math.inf
         for number in SIGNALS:
             # one that is ignored, as under nohup, stays so
             if signal.getsignal(number) != signal.SIG_IGN:
                 signal.signal(number, self.take)
 
-    def take(self, number, _):
+    def take(self, number: int, _: FrameType | None) -> None:
         self.came, self.latest = number, min(self.latest, time.monotonic() + END_SECONDS)
         if not self.are_held:
             self.end()
 
-    def end(self):
-        sys.exit(128 + self.came)
+    def end(self) -> NoReturn:
+        sys.exit(128 + (self.came or 0))
 
-    def __enter__(self):
+    def __enter__(self) -> None:
         self.are_held = True
 
-    def __exit__(self, fault, *_):
+    def __exit__(self, fault: Optional[type[BaseException]], _: Optional[BaseException], __: Optional[TracebackType]) -> None:
         self.are_held = False
         # a fault ends the device too, and tells why
         if fault is None and self.came is not None:
@@ -155,13 +177,13 @@ class Signals:
 class Server:
     """The server's device routes. Each exchange has a connection of its own, since one connection is served at a time."""
 
-    def __init__(self, url):
+    def __init__(self, url: str):
         parts = urllib.parse.urlsplit(url)
         if parts.scheme != "http" or not parts.hostname:
             raise ValueError(f"not an http:// address: {url}")
         self.host, self.port = parts.hostname, parts.port or 80
 
-    def exchange(self, method, path, body=None):
+    def exchange(self, method: str, path: str, body: bytes | None = None) -> tuple[int, str, bytes]:
         """One request and its answer: status, media type and content. It is repeated until there is one."""
         while True:
             connection = http.client.HTTPConnection(self.host, self.port, timeout=ANSWER_SECONDS)
@@ -184,16 +206,17 @@ class Server:
             say(f"{method} {path}: {reason}; again in {RETRY_SECONDS} s")
             time.sleep(RETRY_SECONDS)
 
-    def queue(self):
+    def queue(self) -> list[tuple[int, int, int, int]]:
         """The jobs that may be started, by number: number, copies, documents and octets of each."""
         status, _, content = self.exchange("GET", "/device/queue")
         if status != 200:
             raise RuntimeError(f"the queue was refused: status {status}")
         if not QUEUE.fullmatch(content):
             raise RuntimeError("the queue was answered by what is no answer of a print release server")
-        return [tuple(map(int, line.groups())) for line in QUEUE_LINE.finditer(content)]
+        lines = (map(int, line.groups()) for line in QUEUE_LINE.finditer(content))
+        return [(number, copies, documents, octets) for number, copies, documents, octets in lines]
 
-    def document(self, job, number):
+    def document(self, job: str, number: int) -> tuple[str, bytes]:
         """The format and the bytes of a job's document, counted from 1."""
         status, media_type, content = self.exchange("GET", f"/device/document/{job}/{number}")
         if status == 404:
@@ -202,7 +225,7 @@ class Server:
             raise RuntimeError(f"document {number} of job {job} was refused: status {status}")
         return media_type, content
 
-    def report(self, line):
+    def report(self, line: str) -> str:
         """The answer to a report, which is sent again after a fault of the server's."""
         while True:
             status, _, content = self.exchange("POST", "/device/report", (line + "\n").encode())
@@ -220,7 +243,7 @@ class Server:
 class Journal:
     """What the device has begun, in a file: written whole and brought to the disk before it takes the place of the old one."""
 
-    def __init__(self, path):
+    def __init__(self, path: str):
         self.path = os.path.abspath(path)
         # two devices on one journal would give out a sequence number twice
         self.lock = open(self.path + ".lock", "w")
@@ -230,15 +253,16 @@ class Journal:
             raise RuntimeError(f"another device uses {self.path}") from None
         try:
             with open(self.path, encoding="utf-8") as file:
-                self.jobs = json.load(file)
-            if not isinstance(self.jobs, dict) or not all(is_entry(number, job) for number, job in self.jobs.items()):
+                jobs = json.load(file)
+            if not isinstance(jobs, dict) or not all(is_entry(number, job) for number, job in jobs.items()):
                 raise ValueError
+            self.jobs = cast("dict[str, Entry]", jobs)
         except FileNotFoundError:
             self.jobs = {}
         except ValueError:
             raise RuntimeError(f"{self.path} is no journal") from None
 
-    def keep(self):
+    def keep(self) -> None:
         with open(self.path + ".new", "w", encoding="utf-8") as file:
             json.dump(self.jobs, file, indent=1)
             file.flush()
@@ -248,10 +272,12 @@ class Journal:
 
 
 class Device:
-    def __init__(self, server, journal, printer, signals, first_sequence):
+    """The device: takes the jobs of the queue one by one."""
+
+    def __init__(self, server: Server, journal: Journal, printer: Printer, signals: Signals, first_sequence: int):
         self.server, self.journal, self.printer, self.signals, self.first_sequence = server, journal, printer, signals, first_sequence
 
-    def note(self, number, kind):
+    def note(self, number: str, kind: str) -> None:
         """Keeps a report, which is then to be sent."""
         job = self.journal.jobs[number]
         if job["sequence"] >= LAST_SEQUENCE:
@@ -260,7 +286,7 @@ class Device:
         job["kind"] = kind
         self.journal.keep()
 
-    def send(self, number):
+    def send(self, number: str) -> bool:
         """Sends the report that was kept last. Whether it was accepted."""
         job = self.journal.jobs[number]
         while True:
@@ -273,7 +299,7 @@ class Device:
             self.note(number, job["kind"])
         return answer.startswith("ok ")
 
-    def settle(self, number):
+    def settle(self, number: str) -> bool:
         """Sends the report that was kept last. Whether the job goes on; else it is forgotten."""
         job = self.journal.jobs[number]
         accepted = self.send(number)
@@ -289,7 +315,7 @@ class Device:
         self.journal.keep()
         return False
 
-    def do_next(self, number):
+    def do_next(self, number: str) -> None:
         """Prints the next document of a job, or ends the job. What came of it is kept as a report."""
         job = self.journal.jobs[number]
         if job["done"] >= job["documents"]:
@@ -322,12 +348,12 @@ class Device:
         if reason:
             say(f"job {number}: {reason}")
 
-    def carry_out(self, number):
+    def carry_out(self, number: str) -> None:
         """Sends the report that was kept last of a job and goes on from there, until the job has ended."""
         while self.settle(number):
             self.do_next(number)
 
-    def begin(self, number, copies, documents):
+    def begin(self, number: str, copies: int, documents: int) -> None:
         self.journal.jobs[number] = {
             "copies": copies,
             "documents": documents,
@@ -340,14 +366,14 @@ class Device:
         self.note(number, "start")
         self.carry_out(number)
 
-    def recover(self):
+    def recover(self) -> None:
         """Takes up what was begun before a restart."""
         for number in sorted(self.journal.jobs, key=int):
             job = self.journal.jobs[number]
             say(f"job {number}: taken up after {job['done']} of {job['documents']} documents, {job['pages']} pages")
             self.carry_out(number)
 
-    def run(self, poll_seconds, once):
+    def run(self, poll_seconds: float, once: bool) -> None:
         self.recover()
         while True:
             waiting = self.server.queue()
@@ -360,11 +386,11 @@ class Device:
                 time.sleep(poll_seconds)
 
 
-def into_folder(folder, pages):
+def into_folder(folder: str, pages: int) -> Printer:
     """Prints by writing a document to a folder, over a file of that name. Nobody else may read it."""
     os.makedirs(folder, mode=0o700, exist_ok=True)
 
-    def printer(job, place, copies, media_type, content):
+    def printer(job: str, place: int, copies: int, media_type: str, content: bytes) -> int:
         path = os.path.join(folder, f"job-{job}-{place}{TYPE_SUFFIXES.get(media_type, '.bin')}")
         wanted = "1 copy" if copies == 1 else f"{copies} copies"
         # said first, since a line that can't be written ends the device
@@ -382,7 +408,7 @@ def into_folder(folder, pages):
     return printer
 
 
-def kill(process):
+def kill(process: subprocess.Popen[bytes]) -> bool:
     """Kills a command with all that it started. Whether it hadn't ended by itself."""
     # one that may not be killed, as under sudo, or that hangs in the system is left, and so is what made a process group of its own
     with contextlib.suppress(OSError, subprocess.TimeoutExpired):
@@ -391,13 +417,14 @@ def kill(process):
     return process.returncode in (None, -signal.SIGKILL)
 
 
-def printed_within(process, seconds):
+def printed_within(process: subprocess.Popen[bytes], seconds: float) -> bytes | None:
     """What a command prints next, or None where it prints nothing for so long. It is empty where no more comes."""
+    assert process.stdout is not None
     readable, _, _ = select.select([process.stdout], [], [], seconds)
     return os.read(process.stdout.fileno(), PIPE_BYTES) if readable else None
 
 
-def run(command, environment, seconds, signals):
+def run(command: str, environment: Mapping[str, str], seconds: float, signals: Signals) -> tuple[int | None, bytes]:
     """Runs a command of the shell's. Its status, which is None where it took too long and was killed, and the end of what it printed.
 
     Where a signal comes and it doesn't end soon, it is killed and the device ends.
@@ -421,23 +448,24 @@ def run(command, environment, seconds, signals):
         was_killed = process.poll() is None and kill(process)
     if was_killed and signals.latest < latest:
         signals.end()
+    assert process.stdout is not None
     with process.stdout:
         # what still lies in the pipe, and no more: what it left behind may print for good
         tail = (tail + (printed_within(process, 0) or b""))[-TAIL_BYTES:]
     return None if was_killed else process.returncode, tail
 
 
-def count_of(printed):
+def count_of(printed: bytes) -> int | None:
     """How many pages the last line of what a command printed counts, or None."""
     lines = printed.decode("utf-8", "replace").split("\n")
     last = next((line.strip() for line in reversed(lines) if line.strip()), "")
     return int(last) if last.isascii() and last.isdigit() and len(last) <= MOST_DIGITS else None
 
 
-def by_command(command, pages, seconds, signals):
+def by_command(command: str, pages: int, seconds: int, signals: Signals) -> Printer:
     """Prints by a command, whose last argument is the document's file."""
 
-    def printer(job, place, copies, media_type, content):
+    def printer(job: str, place: int, copies: int, media_type: str, content: bytes) -> int:
         environment = dict(os.environ, JOB=job, DOCUMENT=str(place), COPIES=str(copies), FORMAT=media_type)
         folder = tempfile.mkdtemp()
         try:
@@ -464,7 +492,7 @@ def by_command(command, pages, seconds, signals):
     return printer
 
 
-def main():
+def main() -> None:
     parser = argparse.ArgumentParser(description=__doc__, formatter_class=argparse.RawDescriptionHelpFormatter)
     parser.add_argument("--server", default="http://127.0.0.1:8631", metavar="URL", help="the server (default: %(default)s)")
     parser.add_argument("--journal", default="device.journal", metavar="FILE", help="where the device keeps what it has begun (default: %(default)s)")

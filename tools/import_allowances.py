@@ -19,6 +19,8 @@ Without systemd, say how the server is stopped and started:
 The status is that of the import, or 1 where the server can't be stopped or started, or another import or a backup is under way; 2 where the
 words are wrong, or name a file, a store, a program or a user that isn't there; 128 and the signal's number where a signal came.
 """
+from __future__ import annotations
+
 import argparse
 import fcntl
 import os
@@ -28,6 +30,9 @@ import shutil
 import signal
 import subprocess
 import sys
+from collections.abc import Mapping
+from types import FrameType
+from typing import Any
 
 CODES = {
     1: "the first line is not batch,account,pages",
@@ -40,7 +45,7 @@ CODES = {
 SIGNALS = (signal.SIGHUP, signal.SIGINT, signal.SIGQUIT, signal.SIGTERM)
 
 
-def put(stream, text):
+def put(stream: int, text: str) -> None:
     """Writes a text on a stream, by its number. Where that can't be done, as on a terminal that has gone, the rest goes on."""
     try:
         os.write(stream, text.encode("utf-8", "backslashreplace"))
@@ -48,17 +53,17 @@ def put(stream, text):
         pass
 
 
-def say(text):
+def say(text: str) -> None:
     put(2, f"import-allowances: {text}\n")
 
 
-def told(line):
+def told(line: str) -> str:
     """A line of the program's on standard error; where it tells of an import that was refused, with what its code means."""
     fault = re.search(r"import fault (\d) at row", line)
     return f"{line} ({CODES[int(fault[1])]})" if fault and int(fault[1]) in CODES else line
 
 
-def identity(user):
+def identity(user: str | None) -> dict[str, Any]:
     """What a process is to run as: a user with the groups of its own, or who runs this."""
     if user is None:
         return {}
@@ -68,7 +73,7 @@ def identity(user):
     return {"user": entry.pw_uid, "group": entry.pw_gid, "extra_groups": os.getgrouplist(user, entry.pw_gid)}
 
 
-def lock(store):
+def lock(store: str) -> None:
     """Makes sure that no other import into a store of that folder is under way, and no backup that holds the lock: this one would start the server beside it."""
     folder = os.open(os.path.dirname(os.path.abspath(store)), os.O_RDONLY | os.O_DIRECTORY)
     try:
@@ -78,13 +83,13 @@ def lock(store):
         sys.exit(1)
 
 
-def run(command):
+def run(command: str) -> bool:
     """Runs a command of the shell's to its end. Whether it succeeded."""
     # a hangup and what a terminal's keys send reach all its programs: none may cut short a stop or a start (and what is started ignores them too)
     return subprocess.run("trap '' HUP INT QUIT TSTP\n" + command, shell=True, check=False).returncode == 0
 
 
-def run_import(words, who):
+def run_import(words: argparse.Namespace, who: Mapping[str, Any]) -> int:
     """Imports the file, and tells what came. The status."""
     # in a session of its own, for the same reason
     ran = subprocess.run(
@@ -100,11 +105,12 @@ def run_import(words, who):
     return ran.returncode
 
 
-def import_between(words, who):
+def import_between(words: argparse.Namespace, who: Mapping[str, Any]) -> int:
     """Stops the server, imports the file and starts the server. The status."""
-    came, status = [], 1
+    came: list[int] = []
+    status = 1
 
-    def note(number, _):
+    def note(number: int, _: FrameType | None) -> None:
         # no exception, which would leave a stop or an import running beside the start
         came.append(number)
         say("a signal came: what is under way is waited for, then the server is started")
@@ -135,9 +141,9 @@ def import_between(words, who):
     return 128 + came[0] if came else status
 
 
-def main():
+def main() -> None:
     parser = argparse.ArgumentParser(description=__doc__, formatter_class=argparse.RawDescriptionHelpFormatter)
-    parser.add_argument("file", metavar="FILE", help="the account file, as docs/accounts.md says")
+    parser.add_argument("file", metavar="FILE", help="the account file, as docs/guide/accounts.md says")
     parser.add_argument("--store", required=True, metavar="PATH", help="the file that keeps the queue")
     parser.add_argument("--printd", default="printd", metavar="PROGRAM", help="the server's program (default: %(default)s)")
     parser.add_argument("--user", metavar="NAME", help="who owns the store: the import runs as this user (default: who runs this)")
