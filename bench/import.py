@@ -7,6 +7,8 @@ numbers of rows may be given. It builds a small program, whose text stands below
 over copies of the crates that it stands on; what `./printd` and `rt check` in crates/list_book have proved is not proved again.
 With both proved this takes a minute or so.
 """
+from __future__ import annotations
+
 import argparse
 import os
 import shutil
@@ -14,10 +16,11 @@ import subprocess
 import sys
 import tempfile
 import time
+from pathlib import Path
 
-sys.path.insert(0, os.path.join(os.path.dirname(os.path.dirname(os.path.abspath(__file__))), "tests"))
+sys.path.insert(0, str(Path(__file__).resolve().parents[1] / "tests" / "lib"))
 
-from common import build  # noqa: E402
+from building import build  # noqa: E402
 
 CRATES = ("queue_types", "queue_core", "list_book", "grants_csv")
 LONGEST = 16_777_216
@@ -67,7 +70,7 @@ fn run<R: AllocGlobal + Env + Files + Print>(rt: &R) -> Result<(), anyhow::Error
 '''
 
 
-def write_file(path, batch, rows):
+def write_file(path: str, batch: str, rows: int) -> None:
     """An account file of one row for each of so many accounts, each of one page."""
     with open(path, "w") as file:
         file.write("batch,account,pages\n")
@@ -76,7 +79,7 @@ def write_file(path, batch, rows):
         sys.exit(f"bench/import.py: a file of {rows} rows is longer than {LONGEST} bytes")
 
 
-def run(program, rows, *files):
+def run(program: str, rows: int, *files: str) -> tuple[float, float]:
     """Runs the program once over these files, all of whose rows are new: seconds and MiB."""
     with tempfile.TemporaryFile() as answers:
         begin = time.monotonic()
@@ -89,7 +92,7 @@ def run(program, rows, *files):
     return seconds, usage.ru_maxrss / 1024
 
 
-def measure(program, folder, rows):
+def measure(program: str, folder: str, rows: int) -> None:
     """Prints what the import of a file of so many rows took, into an empty book and into one with as many grants."""
     files = [os.path.join(folder, name) for name in ("first", "second")]
     for batch, path in zip("ab", files):
@@ -104,7 +107,7 @@ def measure(program, folder, rows):
     )
 
 
-def main():
+def main() -> None:
     words = argparse.ArgumentParser(description=__doc__, formatter_class=argparse.RawDescriptionHelpFormatter)
     words.add_argument("rows", metavar="ROWS", nargs="*", type=int, default=[1_000, 100_000, 1_000_000], help="how many rows a file has, at least 1")
     numbers = words.parse_args().rows

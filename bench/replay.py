@@ -4,74 +4,66 @@
 It prints figures and judges nothing. A peak below that of this script itself, some 20 MiB, does not show. Run it as
 `bench/replay.py` at the top of the repository; the program has to be built (`./printd replay </dev/null` does that).
 """
+from __future__ import annotations
+
 import argparse
 import os
 import subprocess
 import sys
 import tempfile
 import time
+from collections.abc import Iterable, Iterator
+from pathlib import Path
 
-sys.path.insert(0, os.path.join(os.path.dirname(os.path.dirname(os.path.abspath(__file__))), "tests"))
+TOP = Path(__file__).resolve().parents[1]
+sys.path[:0] = [f"{TOP}/tests/lib", f"{TOP}/tools/lib"]
 
-from common import PROGRAM  # noqa: E402
-from ipp import (  # noqa: E402
-    BOOLEAN,
-    CANCEL_JOB,
-    GET_JOB_ATTRIBUTES,
-    GET_JOBS,
-    INTEGER,
-    KEYWORD,
-    MEDIA_TYPE,
-    NAME,
-    PRINT_JOB,
-    RELEASE_JOB,
-    job_request,
-    record,
-    request,
-)
+from ipp import Operation, Tag, record  # noqa: E402
+from messages import job_request, request  # noqa: E402
+from served import PROGRAM  # noqa: E402
 
 
-def print_job(number, caller, document):
+def print_job(number: int, caller: bytes, document: bytes) -> bytes:
     """The smallest Print-Job with this request-id, caller and document."""
-    return request(PRINT_JOB, caller=caller, payload=document).spelled(number)
+    return request(Operation.PRINT_JOB, caller=caller, payload=document).spelled(number)
 
 
-def large_print_job(number, caller):
+def large_print_job(number: int, caller: bytes) -> bytes:
     """A Print-Job with 30 attributes: 12 that the printer knows, and 18 that it lists as unsupported."""
     return request(
-        PRINT_JOB,
-        record(NAME, "job-name", "quarterly report"),
-        record(NAME, "document-name", "report.pdf"),
-        record(BOOLEAN, "ipp-attribute-fidelity", False),
-        record(KEYWORD, "compression", "none"),
-        record(MEDIA_TYPE, "document-format", "application/pdf"),
-        record(INTEGER, "job-impressions", 12),
+        Operation.PRINT_JOB,
+        record(Tag.NAME, "job-name", "quarterly report"),
+        record(Tag.NAME, "document-name", "report.pdf"),
+        record(Tag.BOOLEAN, "ipp-attribute-fidelity", False),
+        record(Tag.KEYWORD, "compression", "none"),
+        record(Tag.MEDIA_TYPE, "document-format", "application/pdf"),
+        record(Tag.INTEGER, "job-impressions", 12),
         caller=caller,
         job=[
-            record(INTEGER, "copies", 2),
-            record(KEYWORD, "job-hold-until", "indefinite"),
-            *(record(KEYWORD, f"x-attribute-{n}", "some-keyword") for n in range(18)),
+            record(Tag.INTEGER, "copies", 2),
+            record(Tag.KEYWORD, "job-hold-until", "indefinite"),
+            *(record(Tag.KEYWORD, f"x-attribute-{n}", "some-keyword") for n in range(18)),
         ],
         payload=b"hi",
     ).spelled(number)
 
 
-def get_jobs(number, caller, limit):
+def get_jobs(number: int, caller: bytes, limit: int) -> bytes:
     """A Get-Jobs of at most so many jobs."""
-    return request(GET_JOBS, record(INTEGER, "limit", limit), caller=caller).spelled(number)
+    return request(Operation.GET_JOBS, record(Tag.INTEGER, "limit", limit), caller=caller).spelled(number)
 
 
-def asked(message):
+def asked(message: bytes) -> bytes:
     """The line of a request."""
     return b"ipp " + message.hex().encode()
 
 
-def run(requests):
+def run(requests: Iterable[bytes]) -> tuple[int, int, float, float]:
     """Runs the program once over these requests: how many there were, how many it took, seconds and MiB."""
     with tempfile.TemporaryFile() as source, tempfile.TemporaryFile() as answers:
         count = 0
-        for request in requests:
-            source.write(asked(request) + b"\n")
+        for one in requests:
+            source.write(asked(one) + b"\n")
             count += 1
         source.seek(0)
         begin = time.monotonic()
@@ -85,18 +77,19 @@ def run(requests):
     return count, taken, seconds, usage.ru_maxrss / 1024
 
 
-def is_taken(answer):
+def is_taken(answer: bytes) -> bool:
     """The answer says that a request, a report or an account file was taken."""
     return answer[8:12] in (b"0000", b"0001") or answer.startswith((b"ok ", b"grant new "))
 
 
-def run_parts(*parts):
+def run_parts(*parts: Iterable[bytes]) -> tuple[list[float], float]:
     """Runs the program once over lines in parts, all of which it has to take: the seconds that each part took, and MiB.
 
     A part ends once its last answer is read. The program writes answers some thousand bytes at a time, so parts are long.
     """
     with tempfile.TemporaryFile() as source:
-        ends, count = [], 0
+        ends: list[int] = []
+        count = 0
         for part in parts:
             for line in part:
                 source.write(line + b"\n")
@@ -105,6 +98,7 @@ def run_parts(*parts):
         source.seek(0)
         moments = [time.monotonic()]
         process = subprocess.Popen([PROGRAM, "replay"], stdin=source, stdout=subprocess.PIPE)
+        assert process.stdout is not None
         for place, answer in enumerate(process.stdout, 1):
             if not is_taken(answer):
                 sys.exit(f"bench/replay.py: line {place} was not taken: {answer.decode()}")
@@ -116,7 +110,7 @@ def run_parts(*parts):
     return [after - before for before, after in zip(moments, moments[1:])], usage.ru_maxrss / 1024
 
 
-def measure(title, requests, bytes_of_documents):
+def measure(title: str, requests: Iterable[bytes], bytes_of_documents: int) -> None:
     """Prints what one run over these requests took."""
     count, taken, seconds, memory = run(requests)
     print(
@@ -125,16 +119,16 @@ def measure(title, requests, bytes_of_documents):
     )
 
 
-def measure_get_jobs(others):
+def measure_get_jobs(others: int) -> None:
     """Prints what 1,000 Get-Jobs take beside jobs of others: a run with them, less one without them."""
 
-    def jobs():
+    def jobs() -> Iterator[bytes]:
         for n in range(others):
             yield print_job(n + 1, b"caller%d" % (n % 200), b"hi")
         for n in range(50):
             yield print_job(n + 1, b"alice", b"hi")
 
-    def jobs_and_looks():
+    def jobs_and_looks() -> Iterator[bytes]:
         yield from jobs()
         for n in range(1000):
             yield get_jobs(n + 1, b"alice", 10)
@@ -147,39 +141,39 @@ def measure_get_jobs(others):
     )
 
 
-def jobs_that_end(count):
+def jobs_that_end(count: int) -> Iterator[bytes]:
     """The lines by which so many jobs of 200 callers are printed and canceled."""
     for n in range(count):
         caller = b"caller%d" % (n % 200)
         yield asked(print_job(1, caller, b"hi"))
-        yield asked(job_request(CANCEL_JOB, n + 1, caller=caller).spelled(1))
+        yield asked(job_request(Operation.CANCEL_JOB, n + 1, caller=caller).spelled(1))
 
 
-def requests_behind(ended):
+def requests_behind(ended: int) -> Iterator[bytes]:
     """1,000 Print-Jobs of 10 callers behind so many jobs, then as many Get-Job-Attributes and Cancel-Jobs for them."""
     owners = [b"owner%d" % (n % 10) for n in range(1000)]
     for owner in owners:
         yield asked(print_job(1, owner, b"hi"))
-    for operation in (GET_JOB_ATTRIBUTES, CANCEL_JOB):
+    for operation in (Operation.GET_JOB_ATTRIBUTES, Operation.CANCEL_JOB):
         for n, owner in enumerate(owners):
             yield asked(job_request(operation, ended + n + 1, caller=owner).spelled(1))
 
 
-def begun_job(number):
+def begun_job(number: int) -> Iterator[bytes]:
     """The lines by which the next job, of this number, is printed, released and begun."""
     yield b"grant f24,alice,1000000"
     yield asked(print_job(1, b"alice", b"hi"))
-    yield asked(job_request(RELEASE_JOB, number, caller="alice").spelled(1))
+    yield asked(job_request(Operation.RELEASE_JOB, number, caller="alice").spelled(1))
     yield b"dev %d 1 start 0" % number
 
 
-def reports_of(number):
+def reports_of(number: int) -> Iterator[bytes]:
     """10,000 reports of the count of a job that was begun."""
     for n in range(10_000):
         yield b"dev %d %d count %d" % (number, n + 2, n + 1)
 
 
-def measure_behind(ended):
+def measure_behind(ended: int) -> None:
     """Prints how many requests and reports a second are answered behind so many jobs that ended."""
     number = ended + 1001
     seconds, memory = run_parts(jobs_that_end(ended), requests_behind(ended), begun_job(number), reports_of(number))
@@ -189,9 +183,9 @@ def measure_behind(ended):
     )
 
 
-def main():
+def main() -> None:
     argparse.ArgumentParser(description=__doc__, formatter_class=argparse.RawDescriptionHelpFormatter).parse_args()
-    if not os.path.exists(PROGRAM):
+    if not PROGRAM.exists():
         sys.exit("bench/replay.py: build the program first: ./printd replay </dev/null")
     for count in (1000, 20000):
         measure(

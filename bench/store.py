@@ -19,6 +19,8 @@ Run it as `bench/store.py [JOBS ..]` at the top of the repository; other numbers
 temporary folder, over copies of the crates that stand there proved (`./printd replay </dev/null` does that); this takes some minutes. With --program it
 takes one that is built already.
 """
+from __future__ import annotations
+
 import argparse
 import os
 import random
@@ -27,14 +29,15 @@ import sqlite3
 import subprocess
 import sys
 import tempfile
+from collections.abc import Sequence
+from pathlib import Path
 
-sys.path.insert(0, os.path.join(os.path.dirname(os.path.dirname(os.path.abspath(__file__))), "tests"))
+TOP = Path(__file__).resolve().parents[1]
+sys.path[:0] = [f"{TOP}/tests/lib", f"{TOP}/tools/lib"]
 
-from common import build  # noqa: E402
-from ipp import (  # noqa: E402
-    CANCEL_JOB, CANCEL_MY_JOBS, GET_JOB_ATTRIBUTES, GET_JOBS, GET_PRINTER_ATTRIBUTES, INTEGER, KEYWORD, PRINT_JOB, RELEASE_JOB, VALIDATE_JOB, Message,
-    job_request, record, request,
-)
+from building import build  # noqa: E402
+from ipp import Operation, Tag, record  # noqa: E402
+from messages import Draft, job_request, request  # noqa: E402
 
 CRATES = (
     "ipp_wire", "queue_types", "queue_core", "queue_rows", "queue_tables", "queue_load", "queue_scenes", "queue_shown", "queue_store", "ipp_reply",
@@ -61,6 +64,8 @@ MOMENT = 1_000_000
 KEEP = 500_000
 # How many sweeps that end nothing are measured.
 SWEEPS = 3000
+# The kind and the bytes of a request.
+Asked = tuple[bytes, bytes]
 
 # the program that is timed; the gate does not know it
 TEXT = '''\
@@ -238,7 +243,7 @@ fn send<B: QueueBook>(book: &mut B, bytes: &[u8]) -> bool {
 '''
 
 
-def is_canceled(number):
+def is_canceled(number: int) -> bool:
     """Whether the ended job of that number was canceled."""
     return number % 2 == 0
 
@@ -309,7 +314,7 @@ def fill_held(store: str, held: int, octets: int) -> None:
     store_file.close()
 
 
-def write_requests(path, requests):
+def write_requests(path: str, requests: Sequence[Asked]) -> None:
     """A file of requests: the kind and the bytes of each."""
     with open(path, "wb") as file:
         file.write(len(requests).to_bytes(4, "big"))
@@ -318,42 +323,42 @@ def write_requests(path, requests):
             file.write(data)
 
 
-def message(number, asked):
+def message(number: int, asked: Draft) -> Asked:
     return b"i", asked.spelled(number)
 
 
-def sweep(ended: int) -> tuple[bytes, bytes]:
+def sweep(ended: int) -> Asked:
     return b"e", ended.to_bytes(4, "big")
 
 
-def completed(owner):
+def completed(owner: str) -> Draft:
     """Get-Jobs for the ten jobs of an owner that ended last."""
-    return request(GET_JOBS, record(INTEGER, "limit", 10), record(KEYWORD, "which-jobs", "completed"), caller=owner)
+    return request(Operation.GET_JOBS, record(Tag.INTEGER, "limit", 10), record(Tag.KEYWORD, "which-jobs", "completed"), caller=owner)
 
 
-def not_completed(owner):
+def not_completed(owner: str) -> Draft:
     """Get-Jobs for the first ten jobs of an owner that have not ended."""
-    return request(GET_JOBS, record(INTEGER, "limit", 10), caller=owner)
+    return request(Operation.GET_JOBS, record(Tag.INTEGER, "limit", 10), caller=owner)
 
 
-def all_completed(owner):
+def all_completed(owner: str) -> Draft:
     """Get-Jobs for all jobs of an owner that have ended, with all their attributes."""
-    return request(GET_JOBS, record(KEYWORD, "requested-attributes", "all"), record(KEYWORD, "which-jobs", "completed"), caller=owner)
+    return request(Operation.GET_JOBS, record(Tag.KEYWORD, "requested-attributes", "all"), record(Tag.KEYWORD, "which-jobs", "completed"), caller=owner)
 
 
-def everybodys(*attributes: bytes) -> Message:
+def everybodys(*attributes: bytes) -> Draft:
     """An operator's Get-Jobs."""
-    return request(GET_JOBS, *attributes, caller=OPERATOR)
+    return request(Operation.GET_JOBS, *attributes, caller=OPERATOR)
 
 
 class Run:
     """A program over one store."""
 
-    def __init__(self, program, folder, ended):
+    def __init__(self, program: str, folder: str, ended: int):
         self.program, self.folder, self.ended = program, folder, ended
         self.store = os.path.join(folder, "queue.db")
 
-    def call(self, *words):
+    def call(self, *words: str) -> tuple[list[int], float]:
         """Runs the program once: the numbers that it prints, and the MiB that it had at its peak."""
         with tempfile.TemporaryFile() as told:
             process = subprocess.Popen([self.program, *words], stdin=subprocess.DEVNULL, stdout=told)
@@ -363,7 +368,7 @@ class Run:
             told.seek(0)
             return [int(word) for word in told.read().split()], usage.ru_maxrss / 1024
 
-    def time(self, requests):
+    def time(self, requests: Sequence[Asked]) -> tuple[float, float, float, float]:
         """Answers requests over the store: the seconds to open it, of all answers and of the longest, and the peak in MiB."""
         path = os.path.join(self.folder, "requests")
         write_requests(path, requests)
@@ -372,7 +377,7 @@ class Run:
         opening, whole, longest = (number / 1e6 for number in micros)
         return opening, whole, longest, memory
 
-    def measure(self, name, requests):
+    def measure(self, name: str, requests: Sequence[Asked]) -> None:
         opening, whole, longest, memory = self.time(requests)
         rate = len(requests) / whole
         print(
@@ -380,7 +385,7 @@ class Run:
             flush=True,
         )
 
-    def move(self, name, requests):
+    def move(self, name: str, requests: Sequence[Asked]) -> None:
         _, whole, longest, memory = self.time(requests)
         speed = len(requests) * LARGE / whole / 1e6
         print(f"{self.ended:>9,}  {name:<34} {speed:>9,.0f} MB/s      longest {longest * 1e3:>8.2f} ms  {'':<18}  {memory:>6,.0f} MiB", flush=True)
@@ -396,7 +401,7 @@ def live_jobs(first: int, callers: list[str], count: int) -> list[tuple[int, str
     return [(first + place, callers[place // LIVE_JOBS]) for place in range(count)]
 
 
-def measure(program, folder, ended, octets, count, times):
+def measure(program: str, folder: str, ended: int, octets: int, count: int, times: int) -> None:
     """Prints the figures of a store with so many ended jobs, each with a document of so many bytes, in a folder of its own."""
     run = Run(program, folder, ended)
     run.call("new", run.store)
@@ -409,26 +414,26 @@ def measure(program, folder, ended, octets, count, times):
     live = live_jobs(first, callers, count)
     places = random.Random(2)
     document = places.randbytes(SMALL)
-    run.measure(f"Print-Job, {SMALL} bytes", [message(number, request(PRINT_JOB, caller=owner, payload=document)) for number, owner in live])
-    run.measure("Get-Job-Attributes", [message(number, job_request(GET_JOB_ATTRIBUTES, number, caller=owner)) for number, owner in live])
-    run.measure(f"Get-Printer-Attributes, {count:,} live", [message(number, request(GET_PRINTER_ATTRIBUTES)) for number, _ in live])
+    run.measure(f"Print-Job, {SMALL} bytes", [message(number, request(Operation.PRINT_JOB, caller=owner, payload=document)) for number, owner in live])
+    run.measure("Get-Job-Attributes", [message(number, job_request(Operation.GET_JOB_ATTRIBUTES, number, caller=owner)) for number, owner in live])
+    run.measure(f"Get-Printer-Attributes, {count:,} live", [message(number, request(Operation.GET_PRINTER_ATTRIBUTES)) for number, _ in live])
     run.measure(f"sweep, none of {count:,} held expires", SWEEPS * [sweep(0)])
-    run.measure("Release-Job", [message(number, job_request(RELEASE_JOB, number, caller=owner)) for number, owner in live])
+    run.measure("Release-Job", [message(number, job_request(Operation.RELEASE_JOB, number, caller=owner)) for number, owner in live])
     run.measure("report: start", [(b"r", b"%d 1 start 0\n" % number) for number, _ in live])
     run.measure("report: done", [(b"r", b"%d 2 done 1\n" % number) for number, _ in live])
     run.measure(f"Get-Jobs, 10 of {min(FEW, ended // 2)} ended", [message(number, completed("few")) for number, _ in live])
     run.measure(f"Get-Jobs, 10 of {ended // 2:,} ended", [message(number, completed("many")) for number, _ in live])
     run.measure(f"Get-Jobs, all of {ended // 2:,} ended", [message(number, all_completed("many")) for number, _ in live[:WHOLE_LISTS]])
     # the owner of many has no job that has not ended
-    run.measure(f"Validate-Job beside {ended // 2:,} ended", [message(number, request(VALIDATE_JOB, caller="many")) for number, _ in live])
+    run.measure(f"Validate-Job beside {ended // 2:,} ended", [message(number, request(Operation.VALIDATE_JOB, caller="many")) for number, _ in live])
     run.measure(f"Get-Jobs, none of {ended // 2:,} ended", [message(number, not_completed("many")) for number, _ in live])
-    run.measure(f"Cancel-My-Jobs, {ended // 2:,} ended", [message(number, request(CANCEL_MY_JOBS, caller="many")) for number, _ in live])
-    run.measure("Get-Printer-Attributes, none live", [message(number, request(GET_PRINTER_ATTRIBUTES)) for number, _ in live])
+    run.measure(f"Cancel-My-Jobs, {ended // 2:,} ended", [message(number, request(Operation.CANCEL_MY_JOBS, caller="many")) for number, _ in live])
+    run.measure("Get-Printer-Attributes, none live", [message(number, request(Operation.GET_PRINTER_ATTRIBUTES)) for number, _ in live])
 
     large = [first + count + place for place in range(times)]
     content = places.randbytes(LARGE)
-    run.move("documents in", [message(number, request(PRINT_JOB, caller=callers[-1], payload=content)) for number in large])
-    run.time([message(number, job_request(RELEASE_JOB, number, caller=callers[-1])) for number in large])
+    run.move("documents in", [message(number, request(Operation.PRINT_JOB, caller=callers[-1], payload=content)) for number in large])
+    run.time([message(number, job_request(Operation.RELEASE_JOB, number, caller=callers[-1])) for number in large])
     run.move("documents out", [(b"d", number.to_bytes(4, "big")) for number in large])
 
 
@@ -455,8 +460,8 @@ def measure_lists(program: str, folder: str, ended: int, octets: int, count: int
     callers = callers_of(count)
     first = fill(run.store, [f"owner-{place % OWNERS}" for place in range(ended)], octets, callers)
     live = live_jobs(first, callers, count)
-    ten, every = record(INTEGER, "limit", 10), record(KEYWORD, "requested-attributes", "all")
-    is_completed = record(KEYWORD, "which-jobs", "completed")
+    ten, every = record(Tag.INTEGER, "limit", 10), record(Tag.KEYWORD, "requested-attributes", "all")
+    is_completed = record(Tag.KEYWORD, "which-jobs", "completed")
 
     def measure(name: str, *attributes: bytes, times: int = count) -> None:
         run.measure(f"opal: {name}", [message(number, everybodys(*attributes)) for number in range(1, times + 1)])
@@ -464,10 +469,10 @@ def measure_lists(program: str, folder: str, ended: int, octets: int, count: int
     opening, _, _, memory = run.time([])
     print(f"{ended:>9,}  of {OWNERS:,} owners: the store opened in {opening:.3f} s, {memory:,.0f} MiB", flush=True)
     measure("10 of none that wait", ten)
-    run.time([message(number, request(PRINT_JOB, caller=owner, payload=b"hi")) for number, owner in live])
+    run.time([message(number, request(Operation.PRINT_JOB, caller=owner, payload=b"hi")) for number, owner in live])
     # a third is released, and of these every other one begins
     released = live[::3]
-    run.time([message(number, job_request(RELEASE_JOB, number, caller=owner)) for number, owner in released])
+    run.time([message(number, job_request(Operation.RELEASE_JOB, number, caller=owner)) for number, owner in released])
     run.time([(b"r", b"%d 1 start 0\n" % number) for number, _ in released[::2]])
     measure(f"10 of {count:,} live", ten)
     measure(f"10 of {ended:,} ended", ten, is_completed)
@@ -477,11 +482,11 @@ def measure_lists(program: str, folder: str, ended: int, octets: int, count: int
     # one each, as a peak is of the greatest
     measure(f"all of {ended:,} ended", is_completed, times=1)
     measure(f"all of {ended:,} ended, whole", is_completed, every, times=1)
-    run.measure("opal: Get-Job-Attributes", [message(number, job_request(GET_JOB_ATTRIBUTES, number, caller=OPERATOR)) for number, _ in live])
-    run.measure("opal: Cancel-Job", [message(number, job_request(CANCEL_JOB, number, caller=OPERATOR)) for number, _ in live])
+    run.measure("opal: Get-Job-Attributes", [message(number, job_request(Operation.GET_JOB_ATTRIBUTES, number, caller=OPERATOR)) for number, _ in live])
+    run.measure("opal: Cancel-Job", [message(number, job_request(Operation.CANCEL_JOB, number, caller=OPERATOR)) for number, _ in live])
 
 
-def main():
+def main() -> None:
     words = argparse.ArgumentParser(description=__doc__, formatter_class=argparse.RawDescriptionHelpFormatter)
     words.add_argument("jobs", metavar="JOBS", nargs="*", type=int, default=[100, 100_000], help="how many jobs have ended (default: 100 100000)")
     words.add_argument("--held", nargs="*", type=int, default=[1000, 100_000], metavar="N", help="how many held jobs expire at once (default: 1000 100000)")

@@ -4,26 +4,28 @@
 Most are spelled by hand; of those that reach every corner the answers come from a second queue that is written from the documents
 alone (tests/second). `tests/cases.py` sees that the second queue answers the others as they are spelled, compares the files stdin
 and stdout of that crate with the examples, and ends with status 1 where anything differs; `tests/cases.py write` writes them. The
-gate runs the crate's program over stdin; docs/tests.md says how an example that fails is shown.
+gate runs the crate's program over stdin; docs/dev/tests.md says how an example that fails is shown.
 """
-import argparse
-import os
-import sys
+from __future__ import annotations
 
-TOP = os.path.dirname(os.path.dirname(os.path.abspath(__file__)))
-sys.path.insert(0, os.path.join(TOP, "tests"))
+import argparse
+import sys
+from pathlib import Path
+
+TOP = Path(__file__).resolve().parents[1]
+sys.path[:0] = [f"{TOP}/tests/lib", f"{TOP}/tools/lib"]
 
 from second.replay import replay  # noqa: E402
 from worked import accounts, attributes, checks, device, documents, jobs, limits, lines, messages, others, printer  # noqa: E402, F401
 from worked import drawn, expiry, most, names, operators, order, states, tags  # noqa: E402, F401
 from worked.case import CASES  # noqa: E402
 
-PLACE = os.path.join(TOP, "crates", "replay_cases")
+PLACE = TOP / "crates" / "replay_cases"
 # The crate has this line as it is: another one would change the input of its program.
 TITLE = b"Worked examples, written by `bench/cases write`: change them in bench/worked.\n"
 
 
-def main():
+def main() -> None:
     words = argparse.ArgumentParser(description=__doc__, formatter_class=argparse.RawDescriptionHelpFormatter)
     words.add_argument("word", nargs="?", choices=["write"], help="write the files, and don't compare them")
     is_written = words.parse_args().word == "write"
@@ -40,14 +42,11 @@ def main():
         "stdout": b"".join(b"ok %s\n" % name.encode() for name, _, _, _ in CASES),
     }
     for name, content in files.items():
-        path = os.path.join(PLACE, name)
+        path = PLACE / name
         if is_written:
-            with open(path, "wb") as file:
-                file.write(content)
-        else:
-            with open(path, "rb") as file:
-                if file.read() != content:
-                    sys.exit(f"tests/cases.py: {path} differs from what tests/worked says")
+            path.write_bytes(content)
+        elif path.read_bytes() != content:
+            sys.exit(f"tests/cases.py: {path} differs from what tests/worked says")
     print(f"{len(CASES)} examples")
 
 

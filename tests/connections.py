@@ -10,6 +10,8 @@ started again on its store, often with other operators. Some stores keep a held 
 Run it as `tests/connections.py [RUNS [FIRST]]` at the top of the repository; the program has to be built (`./printd --help` does that). It ends with
 status 1 at the first thing that differs, and shows it.
 """
+from __future__ import annotations
+
 import argparse
 import collections
 import copy
@@ -22,16 +24,18 @@ import sys
 import tempfile
 import threading
 import time
-from typing import Callable
+from collections.abc import Callable
+from pathlib import Path
 
-sys.path.insert(0, os.path.dirname(os.path.abspath(__file__)))
+TOP = Path(__file__).resolve().parents[1]
+sys.path[:0] = [f"{TOP}/tests/lib", f"{TOP}/tools/lib"]
 
-import ipp  # noqa: E402
-from common import PROGRAM, free_port  # noqa: E402
+from messages import PRINTER  # noqa: E402
 from second.calls import ACCOUNTS, Calls, Draws  # noqa: E402
 from second.http import Answered, Shelf, talk  # noqa: E402
-from second.queue import BY_OPERATOR  # noqa: E402
+from second.queue import BY_OPERATOR, Queue  # noqa: E402
 from second.streams import Streams  # noqa: E402
+from served import PROGRAM, Served  # noqa: E402
 
 ROUNDS = 3
 CONNECTIONS = 150
@@ -42,14 +46,14 @@ SECONDS = [0, 1, 3]
 OPERATORS = [["opal"], ["opal"], ["zoe", "opal", "alice"], ["Jürg"]]
 
 
-def command(*words):
+def command(*words: str | bytes) -> bytes:
     """What the program prints, on standard output or in its refusal."""
-    outcome = subprocess.run([PROGRAM, *words], stdout=subprocess.PIPE, stderr=subprocess.PIPE)
+    outcome = subprocess.run([PROGRAM, *words], stdout=subprocess.PIPE, stderr=subprocess.PIPE, check=False)
     return outcome.stdout or outcome.stderr
 
 
-def statement(queue, account):
-    """The statement of an account ("Sheets and statements" in docs/accounts.md)."""
+def statement(queue: Queue, account: bytes) -> bytes:
+    """The statement of an account ("Sheets and statements" in docs/guide/accounts.md)."""
     if account not in queue.free:
         return b"printd: no account\n"
     jobs = [job for job in queue.jobs.values() if job.owner == account and job.pages()]
@@ -67,53 +71,32 @@ def statement(queue, account):
     return b"account %s\n" % account + text.encode()
 
 
-class Server:
-    """The program as it serves so many connections on a store. Behind a `with` it doesn't run any more."""
-
-    def __init__(self, store, connections):
-        self.port = free_port()
-        words = [PROGRAM, "serve", "--store", store, "--port", str(self.port), "--connections", str(connections)]
-        self.process = subprocess.Popen(words, stdout=subprocess.PIPE)
-        line = self.process.stdout.readline()
-        if line != b"listening 127.0.0.1:%d\n" % self.port:
-            self.process.kill()
-            sys.exit(f"tests/connections.py: instead of listening: {line}")
-
-    def __enter__(self):
-        return self
-
-    def __exit__(self, *_):
-        if self.process.poll() is None:
-            # it would wait for the rest of its connections
-            self.process.kill()
-        self.process.wait()
-        self.process.stdout.close()
-
-    def converse(self, stream, choices):
-        """Sends a stream in pieces, and gives what came."""
-        with socket.create_connection(("127.0.0.1", self.port)) as client:
-            client.setsockopt(socket.IPPROTO_TCP, socket.TCP_NODELAY, 1)
-            sender = threading.Thread(target=send, args=(client, pieces(stream, choices)))
-            sender.start()
-            answer = b""
-            while data := client.recv(1 << 20):
-                answer += data
-            sender.join()
-        return answer
-
-    def end(self):
-        """The lines that were printed of the connections."""
-        lines, _ = self.process.communicate(timeout=60)
-        if self.process.returncode != 0:
-            sys.exit(f"tests/connections.py: the server ended with status {self.process.returncode}")
-        return lines
+def converse(port: int, stream: bytes, choices: random.Random) -> bytes:
+    """Sends a stream in pieces to a server: what came back."""
+    with socket.create_connection(("127.0.0.1", port)) as client:
+        client.setsockopt(socket.IPPROTO_TCP, socket.TCP_NODELAY, 1)
+        sender = threading.Thread(target=send, args=(client, pieces(stream, choices)))
+        sender.start()
+        answer = b""
+        while data := client.recv(1 << 20):
+            answer += data
+        sender.join()
+    return answer
 
 
-def pieces(stream, choices):
+def lines_at_end(server: Served) -> bytes:
+    """The lines that a server has printed of its connections, once it has ended."""
+    status, lines, _ = server.end(60)
+    if status != 0:
+        sys.exit(f"tests/connections.py: the server ended with status {status}")
+    return lines
+
+
+def pieces(stream: bytes, choices: random.Random) -> list[tuple[float, bytes]]:
     """The stream in pieces, each with the time to wait before it."""
     most = choices.choice([7, 100, 4_096, 1 << 20, 1 << 20])
     most = max(most, len(stream) // 200)
-    cut = []
+    cut: list[tuple[float, bytes]] = []
     while stream:
         size = choices.randint(1, most)
         cut.append((choices.choice([0, 0, 0, 0.001]), stream[:size]))
@@ -121,7 +104,7 @@ def pieces(stream, choices):
     return cut
 
 
-def send(client, cut):
+def send(client: socket.socket, cut: list[tuple[float, bytes]]) -> None:
     try:
         for wait, piece in cut:
             time.sleep(wait)
@@ -136,7 +119,7 @@ class Run:
     """One store of the program, beside the queue of the second server. Where an answer doesn't tell in which of two seconds its connection was
     taken there are two such queues, until a later answer tells them apart."""
 
-    def __init__(self, seed, folder, kinds):
+    def __init__(self, seed: int, folder: str, kinds: collections.Counter[str]):
         self.seed, self.kinds = seed, kinds
         self.choices = random.Random(seed)
         self.seconds = SECONDS[seed % len(SECONDS)]
@@ -146,22 +129,22 @@ class Run:
         while not self.epoch:
             self.make()
 
-    def make(self):
+    def make(self) -> None:
         """Makes the store within one second, which is its epoch."""
         before = int(time.time())
-        printed = command("init", "--store", self.store, "--uri", ipp.PRINTER, "--name", "release", "--keep", str(self.seconds))
+        printed = command("init", "--store", self.store, "--uri", PRINTER, "--name", "release", "--keep", str(self.seconds))
         if printed:
-            sys.exit(f"tests/connections.py: init printed {printed}")
+            sys.exit(f"tests/connections.py: init printed {printed!r}")
         if int(time.time()) == before:
             self.epoch = before
         else:
             os.remove(self.store)
 
-    def check(self, what, came, wanted):
+    def check(self, what: str, came: object, wanted: object) -> None:
         if came != wanted:
             sys.exit(f"run {self.seed}: {what}\ncame:\n  {came}\nwanted:\n  {wanted}")
 
-    def grant(self):
+    def grant(self) -> None:
         """Imports an account file of random rows."""
         rows = Calls(Draws(self.choices.getrandbits(64)), self.queues[0]).office()[len(b"grant ") :]
         file = os.path.join(os.path.dirname(self.store), "rows.csv")
@@ -171,9 +154,9 @@ class Run:
         # of a refusal the second queue knows the code alone
         code = b"printd: import fault " + wanted[len(b"refused ") :]
         if wanted.startswith(b"refused "):
-            self.check(f"import of {rows}", printed[: len(code)], code)
+            self.check(f"import of {rows!r}", printed[: len(code)], code)
         else:
-            self.check(f"import of {rows}", printed, wanted + b"\n")
+            self.check(f"import of {rows!r}", printed, wanted + b"\n")
 
     def set_operators(self) -> None:
         """Sets other operators."""
@@ -197,12 +180,12 @@ class Run:
         self.queues = queues
         return acted
 
-    def connect(self, server):
+    def connect(self, server: Served) -> int:
         """A random connection, whose answer has to be that of a moment at which it was open; and how many of its requests acted."""
         begin = int(time.time())
         stream = Streams(self.choices, self.queues[0]).stream(begin - self.epoch + 1)
-        came = server.converse(stream, self.choices)
-        acted = self.come(f"the answer to\n  {stream}", begin, came, lambda queue, now: talk(queue, stream, now))
+        came = converse(server.port, stream, self.choices)
+        acted = self.come(f"the answer to\n  {stream!r}", begin, came, lambda queue, now: talk(queue, stream, now))
         for line in came.split(b"\r\n"):
             if line.startswith(b"HTTP/1.1 "):
                 self.kinds[line[9:12].decode()] += 1
@@ -229,28 +212,29 @@ class Run:
             self.grant()
         if self.choices.random() < 0.7:
             self.set_operators()
-        with Server(self.store, CONNECTIONS) as server:
+        # after a fault it would wait for the rest of its connections
+        with Served(self.store, CONNECTIONS).must_listen() as server:
             acted = [self.connect(server) for _ in range(CONNECTIONS)]
-            counts = server.end()
+            counts = lines_at_end(server)
         self.check("the counts of connections", counts, b"".join(b"served %d\n" % count for count in acted))
         self.settle()
         if self.choices.random() < 0.5:
             self.expire()
             self.settle()
         for account in map(str.encode, [*ACCOUNTS, "nobody"]):
-            self.check(f"the statement of {account}", command("statement", "--store", self.store, account), statement(self.queues[0], account))
+            self.check(f"the statement of {account!r}", command("statement", "--store", self.store, account), statement(self.queues[0], account))
 
 
-def main():
+def main() -> None:
     words = argparse.ArgumentParser(description=__doc__, formatter_class=argparse.RawDescriptionHelpFormatter)
     words.add_argument("runs", metavar="RUNS", type=int, nargs="?", default=10, help=f"how many runs of {ROUNDS} times {CONNECTIONS} connections (10)")
     words.add_argument("first", metavar="FIRST", type=int, nargs="?", default=0, help="the number of the first run, which its connections are drawn by (0)")
     asked = words.parse_args()
     if asked.runs < 1:
         words.error("RUNS is at least 1")
-    if not os.path.exists(PROGRAM):
+    if not PROGRAM.exists():
         sys.exit("tests/connections.py: build the program first: ./printd --help")
-    kinds = collections.Counter()
+    kinds: collections.Counter[str] = collections.Counter()
     with tempfile.TemporaryDirectory() as folder:
         for seed in range(asked.first, asked.first + asked.runs):
             run = Run(seed, folder, kinds)

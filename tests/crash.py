@@ -19,6 +19,8 @@ A store with the tables of an earlier release is also opened under a limit on th
 
 Run it as `tests/crash.py` at the top of the repository, with strace installed and the program built (`./printd --help` does that).
 """
+from __future__ import annotations
+
 import argparse
 import os
 import random
@@ -26,19 +28,23 @@ import re
 import resource
 import shutil
 import signal
-import socket
 import sqlite3
 import subprocess
 import sys
 import tempfile
 import time
+from collections.abc import Iterator
+from pathlib import Path
+from typing import Optional
 
-sys.path.insert(0, os.path.dirname(os.path.abspath(__file__)))
+TOP = Path(__file__).resolve().parents[1]
+sys.path[:0] = [f"{TOP}/tests/lib", f"{TOP}/tools/lib"]
 
-from common import OLDER, PROGRAM, free_port  # noqa: E402
-from ipp import (  # noqa: E402
-    BOOLEAN, CANCEL_JOB, CREATE_JOB, HOLD_JOB, INTEGER, PRINT_JOB, RELEASE_JOB, SEND_DOCUMENT, job_request, record, request,
-)
+from ipp import Operation, Tag, record  # noqa: E402
+from messages import job_request, request  # noqa: E402
+from posting import answer_of, exchange, post, report  # noqa: E402
+from schemas import OLDER  # noqa: E402
+from served import PROGRAM, Served  # noqa: E402
 
 STORE = "queue.db"
 FIRST_PAGES = "batch,account,pages\nf24,alice,100\nf24,bob,40\n"
@@ -56,76 +62,68 @@ BLOCK = 512
 # For how many seconds the store keeps a job that is held or open: all requests come within them.
 SECONDS = 30
 
+# A call of strace's, its arguments, its file and its answer; None stands for an answer to a request.
+Call = tuple[str, str, str, int]
+# A place in a file and what was written there, or None if the file was cut there.
+Change = tuple[int, Optional[bytes]]
+# All that tables hold, by the table's name; None if they are damaged.
+Tables = Optional[dict[str, list[tuple[object, ...]]]]
+Files = dict[str, bytes]
+
 
 def events() -> list[bytes]:
     """What clients and the device ask of the server, one after another: each is a whole HTTP request."""
     chance = random.Random(1)
-    last, more = record(BOOLEAN, "last-document", True), record(BOOLEAN, "last-document", False)
+    last, more = record(Tag.BOOLEAN, "last-document", True), record(Tag.BOOLEAN, "last-document", False)
     return [
-        post(request(PRINT_JOB, payload=b"hi")),
-        post(request(PRINT_JOB, payload=chance.randbytes(70_000))),
-        post(job_request(RELEASE_JOB, 1)),
+        post(request(Operation.PRINT_JOB, payload=b"hi")),
+        post(request(Operation.PRINT_JOB, payload=chance.randbytes(70_000))),
+        post(job_request(Operation.RELEASE_JOB, 1)),
         report("1 1 start 0"),
-        post(request(CREATE_JOB, caller="bob")),
+        post(request(Operation.CREATE_JOB, caller="bob")),
         report("1 2 count 3"),
-        post(job_request(SEND_DOCUMENT, 3, more, caller="bob", payload=chance.randbytes(300_000))),
-        post(job_request(SEND_DOCUMENT, 3, last, caller="bob", payload=b"end")),
+        post(job_request(Operation.SEND_DOCUMENT, 3, more, caller="bob", payload=chance.randbytes(300_000))),
+        post(job_request(Operation.SEND_DOCUMENT, 3, last, caller="bob", payload=b"end")),
         report("1 3 done 20"),
-        post(job_request(RELEASE_JOB, 3, caller="bob")),
-        post(job_request(HOLD_JOB, 3, caller="bob")),
-        post(job_request(RELEASE_JOB, 2)),
+        post(job_request(Operation.RELEASE_JOB, 3, caller="bob")),
+        post(job_request(Operation.HOLD_JOB, 3, caller="bob")),
+        post(job_request(Operation.RELEASE_JOB, 2)),
         report("2 1 start 0"),
-        post(job_request(CANCEL_JOB, 2)),
+        post(job_request(Operation.CANCEL_JOB, 2)),
         report("2 2 halt 35"),
-        post(job_request(CANCEL_JOB, 3, caller="bob")),
+        post(job_request(Operation.CANCEL_JOB, 3, caller="bob")),
         # these two jobs wait until they expire
-        post(request(PRINT_JOB, payload=b"hi")),
-        post(request(CREATE_JOB, caller="bob")),
-        post(job_request(RELEASE_JOB, 5, caller="bob")),
+        post(request(Operation.PRINT_JOB, payload=b"hi")),
+        post(request(Operation.CREATE_JOB, caller="bob")),
+        post(job_request(Operation.RELEASE_JOB, 5, caller="bob")),
         # an operator cancels this one while it waits
-        post(request(PRINT_JOB, caller="bob", payload=b"hi")),
-        post(job_request(RELEASE_JOB, 6, caller="bob")),
-        post(job_request(CANCEL_JOB, 6, caller="opal")),
+        post(request(Operation.PRINT_JOB, caller="bob", payload=b"hi")),
+        post(job_request(Operation.RELEASE_JOB, 6, caller="bob")),
+        post(job_request(Operation.CANCEL_JOB, 6, caller="opal")),
         # the operator and its owner cancel these while they print: of the three one is halted, and two are to stop in the end
         *(
             event
             for number, caller in ((7, "opal"), (8, "opal"), (9, "alice"))
             for event in (
-                post(request(PRINT_JOB, record(INTEGER, "job-impressions", 5), payload=b"hi")),
-                post(job_request(RELEASE_JOB, number)),
+                post(request(Operation.PRINT_JOB, record(Tag.INTEGER, "job-impressions", 5), payload=b"hi")),
+                post(job_request(Operation.RELEASE_JOB, number)),
                 report(f"{number} 1 start 0"),
-                post(job_request(CANCEL_JOB, number, caller=caller)),
+                post(job_request(Operation.CANCEL_JOB, number, caller=caller)),
             )
         ),
         report("7 2 halt 1"),
     ]
 
 
-def post(message):
-    body = message.spelled(1)
-    return f"POST /ipp/print HTTP/1.0\r\nContent-Type: application/ipp\r\nContent-Length: {len(body)}\r\n\r\n".encode() + body
-
-
-def report(line):
-    return f"POST /device/report HTTP/1.0\r\nContent-Type: text/plain\r\nContent-Length: {len(line) + 1}\r\n\r\n{line}\n".encode()
-
-
-def is_done(answer):
+def is_done(came: bytes) -> bool:
     """Whether an answer tells that what was asked is done."""
-    head, _, content = answer.partition(b"\r\n\r\n")
-    is_told = content[2:4] in (b"\x00\x00", b"\x00\x01") if b"application/ipp" in head else content.startswith(b"ok ")
-    return head.startswith(b"HTTP/1.1 200 ") and is_told
+    answer = answer_of(came)
+    is_message = answer.head.kind == "application/ipp"
+    is_told = answer.content[2:4] in (b"\x00\x00", b"\x00\x01") if is_message else answer.content.startswith(b"ok ")
+    return answer.head.status == 200 and is_told
 
 
-def exchange(port, asked):
-    """A request by a connection of its own, and all that comes back."""
-    with socket.create_connection(("127.0.0.1", port)) as client:
-        client.sendall(asked)
-        pieces = iter(lambda: client.recv(1 << 16), b"")
-        return b"".join(pieces)
-
-
-def octets(shown):
+def octets(shown: str) -> bytes:
     """The bytes that strace shows so."""
     return bytes.fromhex(shown.replace("\\x", ""))
 
@@ -133,17 +131,17 @@ def octets(shown):
 class Program:
     """The program, and a store in a folder of its own."""
 
-    def __init__(self, path, folder):
+    def __init__(self, path: str, folder: str):
         self.path, self.folder = path, folder
         self.store = os.path.join(folder, STORE)
 
-    def words(self, command, *words):
+    def words(self, command: str, *words: str) -> list[str]:
         return [self.path, command, "--store", self.store, *words]
 
-    def init_words(self):
+    def init_words(self) -> list[str]:
         return self.words("init", "--uri", "ipp://localhost/ipp/print", "--name", "release", "--keep", str(SECONDS))
 
-    def told(self, words, room=None):
+    def told(self, words: list[str], room: int | None = None) -> tuple[int, str]:
         """The exit status of the program and what it prints. A file may have no more bytes than there is room for."""
 
         def leave_room() -> None:
@@ -154,7 +152,7 @@ class Program:
         done = subprocess.run(words, capture_output=True, text=True, check=False, restore_signals=False, preexec_fn=leave_room)
         return done.returncode, done.stdout + done.stderr
 
-    def opens(self):
+    def opens(self) -> bool:
         """Whether it opens the store."""
         return self.told(self.words("statement", "alice")) == (1, "printd: no account\n") or self.told(self.words("statement", "bob"))[0] == 0
 
@@ -164,7 +162,7 @@ class Program:
         connection.executescript(statements)
         connection.close()
 
-    def files(self) -> dict[str, bytes]:
+    def files(self) -> Files:
         """The contents of the folder's files, by name."""
         content = {}
         for name in os.listdir(self.folder):
@@ -172,7 +170,7 @@ class Program:
                 content[name] = file.read()
         return content
 
-    def put(self, files: dict[str, bytes]) -> None:
+    def put(self, files: Files) -> None:
         """Puts these files in place of those of the folder."""
         shutil.rmtree(self.folder, ignore_errors=True)
         os.mkdir(self.folder)
@@ -180,7 +178,7 @@ class Program:
             with open(os.path.join(self.folder, name), "wb") as file:
                 file.write(content)
 
-    def tables(self):
+    def tables(self) -> Tables:
         """All that the tables hold as SQLite reads them, but for the moment at which the store was made."""
         connection = sqlite3.connect(self.store)
         try:
@@ -197,39 +195,36 @@ class Program:
 class Trace:
     """The calls of the programs of a run, in turn, with a None where a request was answered."""
 
-    def __init__(self, program, file):
-        self.program, self.file, self.calls = program, file, []
+    def __init__(self, program: Program, file: str):
+        self.program, self.file = program, file
+        self.calls: list[Call | None] = []
 
-    def words(self, words):
-        return ["strace", "-y", "-xx", "-s", "100000000", "-e", f"trace={CALLS}", "-o", self.file, *words]
+    def under(self) -> list[str]:
+        return ["strace", "-y", "-xx", "-s", "100000000", "-e", f"trace={CALLS}", "-o", self.file]
 
-    def command(self, words):
+    def command(self, words: list[str]) -> bytes:
         """A command, with the text that it prints. It has answered as it ends."""
-        done = subprocess.run(self.words(words), check=True, stdout=subprocess.PIPE)
+        done = subprocess.run([*self.under(), *words], check=True, stdout=subprocess.PIPE)
         self.take()
         self.calls.append(None)
         return done.stdout
 
-    def serve(self, asked):
+    def serve(self, asked: list[bytes]) -> None:
         """A server. It has answered a request as it begins to write to its connection."""
-        port = free_port()
-        words = self.program.words("serve", "--port", str(port), "--connections", str(len(asked)))
-        with subprocess.Popen(self.words(words), stdout=subprocess.PIPE) as process:
-            try:
-                if not process.stdout.readline().startswith(b"listening "):
-                    sys.exit("tests/crash.py: the server does not listen")
-                for number, one in enumerate(asked):
-                    answer = exchange(port, one)
-                    if not is_done(answer):
-                        sys.exit(f"tests/crash.py: request {number} is answered by {answer}")
-                process.stdout.read()
-            except BaseException:
-                # it would wait for the rest of its connections
-                process.terminate()
-                raise
+        server = Served(self.program.store, len(asked), program=self.program.path, under=self.under()).must_listen()
+        try:
+            for number, one in enumerate(asked):
+                answer = exchange(server.port, one)
+                if not is_done(answer):
+                    sys.exit(f"tests/crash.py: request {number} is answered by {answer!r}")
+            server.end()
+        except BaseException:
+            # it would wait for the rest of its connections
+            server.stop(signal.SIGTERM)
+            raise
         self.take()
 
-    def take(self):
+    def take(self) -> None:
         """Reads what strace has taken down."""
         is_answered = False
         with open(self.file, encoding="ascii") as lines:
@@ -254,10 +249,11 @@ class Trace:
 class File:
     """What a file holds for good, and what was written to it since it was last synced: places and bytes, or None where the file was cut there."""
 
-    def __init__(self, content=b""):
-        self.synced, self.since = content, []
+    def __init__(self, content: bytes = b""):
+        self.synced = content
+        self.since: list[Change] = []
 
-    def content(self, chance=None):
+    def content(self, chance: random.Random | None = None) -> bytes:
         """What the file holds, or may hold where the machine stopped."""
         content = bytearray(self.synced)
         for place, written in self.since if chance is None else left(self.since, chance):
@@ -265,11 +261,11 @@ class File:
             content[place:None if written is None else place + len(written)] = written or b""
         return bytes(content)
 
-    def sync(self):
+    def sync(self) -> None:
         self.synced, self.since = self.content(), []
 
 
-def left(changes, chance):
+def left(changes: list[Change], chance: random.Random) -> Iterator[Change]:
     """What a machine that stopped may have done of some changes: the first of them, or any, and parts of others."""
     first = chance.randint(0, len(changes)) if chance.random() < 0.5 else None
     for number, change in enumerate(changes):
@@ -281,12 +277,14 @@ def left(changes, chance):
             yield from blocks(change, chance)
 
 
-def blocks(change, chance):
+def blocks(change: Change, chance: random.Random) -> Iterator[Change]:
     """Some blocks of what was written, and any bytes in place of others."""
     place, written = change
-    begin, length = 0, 0 if written is None else len(written)
-    while begin < length:
-        end = min(length, begin + BLOCK - (place + begin) % BLOCK)
+    if written is None:
+        return
+    begin = 0
+    while begin < len(written):
+        end = min(len(written), begin + BLOCK - (place + begin) % BLOCK)
         came = chance.choice(["nothing", "block", "anything"])
         if came != "nothing":
             yield place + begin, written[begin:end] if came == "block" else chance.randbytes(end - begin)
@@ -296,11 +294,11 @@ def blocks(change, chance):
 class Disk:
     """The files of a folder by their names, as they are now and as they are for good."""
 
-    def __init__(self, folder, files):
+    def __init__(self, folder: str, files: Files):
         self.folder, self.now = folder, {name: File(content) for name, content in files.items()}
         self.kept = dict(self.now)
 
-    def change(self, call, arguments, of, answer):
+    def change(self, call: str, arguments: str, of: str, answer: int) -> bool:
         """Takes down a call. It is true where a file or the folder was changed."""
         texts = [octets(text) for text in QUOTED.findall(arguments)]
         if call in ("open", "openat", "creat", "unlink", "unlinkat"):
@@ -322,7 +320,7 @@ class Disk:
             sys.exit(f"tests/crash.py: what {call} makes of a file isn't known here")
         return True
 
-    def change_name(self, call, arguments, path):
+    def change_name(self, call: str, arguments: str, path: str) -> bool:
         name = os.path.basename(path)
         if os.path.dirname(path) != self.folder:
             return False
@@ -337,11 +335,11 @@ class Disk:
             return True
         return False
 
-    def killed(self):
+    def killed(self) -> Files:
         """The files that a program leaves that was killed, by name."""
         return {name: file.content() for name, file in self.now.items()}
 
-    def stopped(self, chance):
+    def stopped(self, chance: random.Random) -> Files:
         """Files that a machine may leave that stopped, by name."""
         names = {name: chance.choice([self.now, self.kept]).get(name) for name in sorted({*self.now, *self.kept})}
         return {name: file.content(chance) for name, file in names.items() if file is not None}
@@ -350,19 +348,20 @@ class Disk:
 class Look:
     """Looks at what failures leave in a folder."""
 
-    def __init__(self, program, pages, is_new):
+    def __init__(self, program: Program, pages: str, is_new: bool):
         self.program, self.pages, self.is_new = program, pages, is_new
-        self.queues = []
-        self.seen, self.count = set(), 0
+        self.queues: list[Tables] = []
+        self.seen: set[int] = set()
+        self.count = 0
 
-    def take_queue(self, files):
+    def take_queue(self, files: Files) -> None:
         """A request was answered: what these files hold is the queue after it."""
         self.program.put(files)
         if not self.program.opens():
             sys.exit("tests/crash.py: a store can't be opened without any failure")
         self.queues.append(self.program.tables())
 
-    def is_well(self, answered, files):
+    def is_well(self, answered: int, files: Files) -> bool:
         """Whether these files hold the queue after so many requests of the run, or one more."""
         key = hash((answered, *sorted(files.items())))
         if key in self.seen:
@@ -377,7 +376,7 @@ class Look:
             return False
         return self.count % 10 != 0 or self.takes_pages(held)
 
-    def takes_pages(self, held):
+    def takes_pages(self, held: Tables) -> bool:
         """Whether the first account file brings what it is to bring."""
         is_new = self.is_new and held == self.queues[0]
         told = self.program.told(self.program.words("import", self.pages))
@@ -388,10 +387,10 @@ def set_operators(program: Program, trace: Trace, *names: str) -> None:
     """Sets the operators of the store."""
     told = trace.command(program.words("operators", *names))
     if told != b"operators %d\n" % len(names):
-        sys.exit(f"tests/crash.py: the operators are answered by {told}")
+        sys.exit(f"tests/crash.py: the operators are answered by {told!r}")
 
 
-def traced(program: Program, folder: str) -> list:
+def traced(program: Program, folder: str) -> list[Call | None]:
     """The calls of a run over a new store."""
     trace = Trace(program, os.path.join(folder, "trace"))
     for name, text in (("first.csv", FIRST_PAGES), ("more.csv", MORE_PAGES)):
@@ -406,18 +405,18 @@ def traced(program: Program, folder: str) -> list:
     time.sleep(SECONDS)
     expired = trace.command(program.words("expire"))
     if expired != b"expired 2\n":
-        sys.exit(f"tests/crash.py: a sweep is answered by {expired}")
+        sys.exit(f"tests/crash.py: a sweep is answered by {expired!r}")
     return trace.calls
 
 
-def traced_older(program: Program, folder: str) -> list:
+def traced_older(program: Program, folder: str) -> list[Call | None]:
     """The calls of a command that opens the store."""
     trace = Trace(program, os.path.join(folder, "trace"))
     trace.command(program.words("statement", "alice"))
     return trace.calls
 
 
-def fill_disk(program: Program, files: dict[str, bytes]) -> int:
+def fill_disk(program: Program, files: Files) -> int:
     """Opens the store of these files with each limit on the bytes of a file, and returns how often that was not well."""
     program.put(files)
     wanted, queue = program.told(program.words("statement", "alice")), program.tables()
@@ -433,7 +432,7 @@ def fill_disk(program: Program, files: dict[str, bytes]) -> int:
     return bad
 
 
-def stop_everywhere(calls, disk, look, images, chance):
+def stop_everywhere(calls: list[Call | None], disk: Disk, look: Look, images: int, chance: random.Random) -> int:
     """Looks at what a failure after each change may leave, and says how many stores were not well."""
     answered, changes, bad = 0, 0, 0
     for call in calls:
@@ -455,7 +454,7 @@ def stop_everywhere(calls, disk, look, images, chance):
     return bad
 
 
-def look_at(program: Program, folder: str, calls: list, files: dict[str, bytes], images: int, chance: random.Random) -> int:
+def look_at(program: Program, folder: str, calls: list[Call | None], files: Files, images: int, chance: random.Random) -> int:
     """Looks at the stores that failures leave of a run that began with these files, and returns how many were not well."""
     look = Look(Program(program.path, os.path.join(folder, "look")), os.path.join(folder, "first.csv"), not files)
     disk = Disk(program.folder, files)
@@ -467,11 +466,11 @@ def look_at(program: Program, folder: str, calls: list, files: dict[str, bytes],
     return stop_everywhere(calls, Disk(program.folder, files), look, images, chance)
 
 
-def main():
+def main() -> None:
     parser = argparse.ArgumentParser(description=__doc__, formatter_class=argparse.RawDescriptionHelpFormatter)
     parser.add_argument("--images", type=int, default=3, metavar="N", help="stores of a stopped machine after each change (default: %(default)s)")
     parser.add_argument("--seed", type=int, default=0, metavar="N", help="of what is chosen by chance (default: %(default)s)")
-    parser.add_argument("--program", default=PROGRAM, metavar="PATH", help="the program (default: the built one)")
+    parser.add_argument("--program", default=str(PROGRAM), metavar="PATH", help="the program (default: the built one)")
     words = parser.parse_args()
     if words.images < 0:
         parser.error("--images is at least 0")

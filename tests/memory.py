@@ -19,29 +19,34 @@ Where a line, a request or a command is refused before the queue is asked, a fau
 printed, and the status is 1. Run it as `tests/memory.py [PART ..]` at the top of the repository, with a C compiler (`cc`) on the PATH and
 the programs built: `./printd --help`, and for `lists` also `rt run` in crates/replay_cases.
 """
+from __future__ import annotations
+
 import argparse
 import collections
 import functools
 import mmap
 import os
 import shutil
-import socket
 import sqlite3
 import struct
 import subprocess
 import sys
 import tempfile
 import time
+from collections.abc import Callable, Iterator
+from pathlib import Path
+from typing import Optional, Union
 
-sys.path.insert(0, os.path.dirname(os.path.abspath(__file__)))
+TOP = Path(__file__).resolve().parents[1]
+sys.path[:0] = [f"{TOP}/tests/lib", f"{TOP}/tools/lib"]
 
-from common import OLDER, PROGRAM, TOP, free_port  # noqa: E402
-from ipp import (  # noqa: E402
-    BOOLEAN, CANCEL_JOB, CANCEL_MY_JOBS, CREATE_JOB, GET_JOB_ATTRIBUTES, GET_JOBS, GET_PRINTER_ATTRIBUTES, HOLD_JOB, INTEGER, KEYWORD,
-    PRINT_JOB, RELEASE_JOB, SEND_DOCUMENT, VALIDATE_JOB, attribute, job_request, record, reply, request,
-)
+from ipp import Operation, Tag, attribute, record  # noqa: E402
+from messages import Draft, job_request, reply, request  # noqa: E402
+import posting  # noqa: E402
+from schemas import OLDER  # noqa: E402
 from second.queue import Queue  # noqa: E402
 from second.replay import Replay  # noqa: E402
+from served import PROGRAM, Served  # noqa: E402
 from worked import case, device, documents, expiry, jobs, lines, messages, operators, states  # noqa: E402, F401
 
 # worked examples with each operation, each kind of report and account files, and what they bring about
@@ -63,6 +68,10 @@ EXAMPLES = [
     "a job that prints and that an operator cancels",
 ]
 ENDED = (1, "", "printd: memory\n")
+# A line and its answer, if anything answers it.
+Given = tuple[bytes, Optional[bytes]]
+# The status of a program, and what it printed on standard output and on standard error.
+Outcome = tuple[int, str, str]
 # the seconds of a store are counted from 1970; alice, who has 100 pages, made a job in the first of them, and bob another; a third, of alice's, is to stop
 HELD = """
     UPDATE meta SET epoch = 0, next_number = 4;
@@ -80,7 +89,7 @@ class Bad(Exception):
 class Page:
     """The two numbers that tests/refuse.c reads and writes: how many allocations there were, and which is refused."""
 
-    def __init__(self, folder):
+    def __init__(self, folder: str):
         self.path = os.path.join(folder, "page")
         with open(self.path, "wb") as file:
             file.write(bytes(16))
@@ -91,39 +100,40 @@ class Page:
         subprocess.run([os.environ.get("CC", "cc"), "-shared", "-fPIC", "-O1", "-o", library, source], check=True)
         self.environment = {**os.environ, "LD_PRELOAD": library, "REFUSE_PAGE": self.path}
 
-    def asked(self):
-        return struct.unpack_from("QQ", self.numbers)[0]
+    def asked(self) -> int:
+        return int(struct.unpack_from("QQ", self.numbers)[0])
 
-    def refuse(self, place):
+    def refuse(self, place: int) -> None:
         """Refuses the allocation at this place from here on, and none for 0."""
         asked = self.asked()
         struct.pack_into("Q", self.numbers, 8, asked + place if place else 0)
 
-    def restart(self, place=0):
+    def restart(self, place: int = 0) -> None:
         """A program is about to start, whose allocation at this place is refused."""
         struct.pack_into("QQ", self.numbers, 0, 0, place)
 
-    def was_refused(self):
+    def was_refused(self) -> bool:
         asked, refused = struct.unpack_from("QQ", self.numbers)
-        return 0 < refused <= asked
+        return 0 < int(refused) <= int(asked)
 
 
 class Tally:
     """What came of the refusals."""
 
-    def __init__(self, part):
-        self.part, self.counts, self.begin = part, collections.Counter(), time.perf_counter()
+    def __init__(self, part: str):
+        self.part, self.begin = part, time.perf_counter()
+        self.counts: collections.Counter[str] = collections.Counter()
 
-    def add(self, what):
+    def add(self, what: str) -> None:
         self.counts[what] += 1
 
-    def tell(self, of):
+    def tell(self, of: str) -> None:
         seconds = time.perf_counter() - self.begin
         told = ", ".join(f"{count} {what}" for what, count in sorted(self.counts.items()))
         print(f"{self.part}: {of}; {sum(self.counts.values())} allocations refused: {told}; {seconds:.0f} s", flush=True)
 
 
-def examples(are_all):
+def examples(are_all: bool) -> Iterator[tuple[str, list[Given]]]:
     """The examples by their names: the lines that come in, and what is to answer each, if anything."""
     chosen = {name: text for name, text, _, status in case.CASES if status == 0 and (are_all or name in EXAMPLES)}
     assert are_all or len(chosen) == len(EXAMPLES), set(EXAMPLES) - set(chosen)
@@ -133,7 +143,7 @@ def examples(are_all):
         yield name, [(line, replay.answer(line)) for line in given]
 
 
-def fault_of(line, wanted):
+def fault_of(line: bytes, wanted: bytes | None) -> bytes | None:
     """How want of memory is answered on a line, and nothing where the line never reaches the queue."""
     if line.startswith(b"grant "):
         return b"grant refused 6"
@@ -141,14 +151,14 @@ def fault_of(line, wanted):
         return b"expire refused"
     if line.startswith(b"dev "):
         return None if wanted in (b"refused 1 syntax", b"refused 4 range") else b"refused 6 fault"
-    if wanted == b"ipp short" or wanted[8:12] in (b"0501", b"0503"):
+    if wanted is None or wanted == b"ipp short" or wanted[8:12] in (b"0501", b"0503"):
         return None
     message = bytes.fromhex(line[len(b"ipp ") :].decode())
     request_id = int.from_bytes(message[4:8], "big")
     return b"ipp " + reply(0x0505, version=message[:2]).spelled(request_id).hex().encode()
 
 
-def wait(process):
+def wait(process: subprocess.Popen[bytes]) -> None:
     """Waits until a program waits for what is to come in."""
     while True:
         with open(f"/proc/{process.pid}/stat", encoding="ascii") as file:
@@ -166,13 +176,15 @@ def wait(process):
 class Lines:
     """A replay that takes a line at a time."""
 
-    def __init__(self, program, page):
+    def __init__(self, program: str, page: Page):
         self.page = page
         page.restart()
-        streams = {"stdin": subprocess.PIPE, "stdout": subprocess.PIPE, "stderr": subprocess.PIPE}
-        self.process = subprocess.Popen([program, "replay"], env=page.environment, **streams)
+        self.process = subprocess.Popen(
+            [program, "replay"], env=page.environment, stdin=subprocess.PIPE, stdout=subprocess.PIPE, stderr=subprocess.PIPE
+        )
 
-    def send(self, line):
+    def send(self, line: bytes) -> None:
+        assert self.process.stdin is not None
         try:
             self.process.stdin.write(line + b"\n")
             self.process.stdin.flush()
@@ -180,12 +192,13 @@ class Lines:
             # it has ended, as its status tells
             pass
 
-    def answer(self, line):
+    def answer(self, line: bytes) -> bytes | None:
         """What answers a line, and none where the program has ended."""
         self.send(line)
+        assert self.process.stdout is not None
         return self.process.stdout.readline().removesuffix(b"\n") or None
 
-    def take(self, given):
+    def take(self, given: list[Given]) -> Lines:
         """Takes lines with no allocation refused."""
         self.page.refuse(0)
         for line, wanted in given:
@@ -195,15 +208,16 @@ class Lines:
                 raise Bad(f"without a refusal, to {line.decode()}")
         return self
 
-    def end(self):
+    def end(self) -> Outcome:
         """The status of the program and what it said since its last answer."""
         out, said = self.process.communicate()
         return self.process.returncode, out.decode(), said.decode()
 
 
-def refuse_in_line(program, page, given, place, replay, tally):
+def refuse_in_line(program: str, page: Page, given: list[Given], place: int, replay: Lines, tally: Tally) -> Lines:
     """Refuses each allocation of one line, and gives the replay that has taken it."""
     line, wanted = given[place]
+    assert wanted is not None
     at = 0
     while True:
         at += 1
@@ -222,11 +236,11 @@ def refuse_in_line(program, page, given, place, replay, tally):
         elif came is None and page.was_refused() and replay.end() == ENDED:
             tally.add("ended with `printd: memory`")
         else:
-            raise Bad(f"allocation {at} of {line.decode()}\nis answered by {came}\nwanted: {wanted.decode()}")
+            raise Bad(f"allocation {at} of {line.decode()}\nis answered by {came!r}\nwanted: {wanted.decode()}")
         replay = Lines(program, page).take(given[:place])
 
 
-def refuse_at_start(program, page, tally):
+def refuse_at_start(program: str, page: Page, tally: Tally) -> None:
     """Refuses each allocation of a replay that has no lines."""
     at = 0
     while True:
@@ -241,7 +255,7 @@ def refuse_at_start(program, page, tally):
         tally.add("done without as it starts" if came != ENDED else "ended with `printd: memory` as it starts")
 
 
-def sweep_replay(program, page, are_all):
+def sweep_replay(program: str, page: Page, are_all: bool) -> None:
     tally, count = Tally("replay"), 0
     try:
         refuse_at_start(program, page, tally)
@@ -273,11 +287,11 @@ class Cases:
     from what is wanted.
     """
 
-    def __init__(self, program, page, folder):
+    def __init__(self, program: str, page: Page, folder: str):
         self.program, self.page = program, page
         self.path = os.path.join(folder, "cases")
 
-    def start(self, given, at, room):
+    def start(self, given: list[Given], at: int, room: int) -> subprocess.Popen[bytes]:
         """Runs lines with an allocation refused. The last line that is wanted is a wrong status, so that all lines before it were right
         where the program tells of that one.
         """
@@ -288,23 +302,25 @@ class Cases:
             # as many bytes each time, so that they are read by the same allocations
             file.write((room - len(content)) * b"." + content)
         self.page.restart(at)
-        streams = {"stdout": subprocess.DEVNULL, "stderr": subprocess.PIPE}
         with open(self.path, "rb") as file:
-            return subprocess.Popen([self.program], stdin=file, env=self.page.environment, **streams)
+            return subprocess.Popen(
+                [self.program], stdin=file, env=self.page.environment, stdout=subprocess.DEVNULL, stderr=subprocess.PIPE
+            )
 
-    def difference(self, process, book):
+    def difference(self, process: subprocess.Popen[bytes], book: bytes) -> tuple[bytes, bytes] | None:
         """The first line that differs over a book, as it was wanted and as it came, and none where the program ended before for want of
         memory.
         """
+        assert process.stderr is not None
         head = process.stderr.readline()
         if head == b"Error: Memory\n":
             return None
         if head != b"differs over %s: a case\n" % book:
-            raise Bad(f"the program says {head}")
+            raise Bad(f"the program says {head!r}")
         wanted, came = process.stderr.readline(), process.stderr.readline()
         return wanted[len("wanted: ") : -1], came[len("came:   ") : -1]
 
-    def over_lists(self, given, at, room):
+    def over_lists(self, given: list[Given], at: int, room: int) -> tuple[bytes, bytes] | None:
         process = self.start(given, at, room)
         try:
             return self.difference(process, b"lists")
@@ -312,7 +328,7 @@ class Cases:
             process.kill()
             process.communicate()
 
-    def reaches_tables(self, given, at, room):
+    def reaches_tables(self, given: list[Given], at: int, room: int) -> bool:
         """Whether the allocation is one of the run over tables, which comes behind the one over lists."""
         process = self.start(given, at, room)
         differences = [self.difference(process, book) for book in (b"lists", b"tables")]
@@ -323,7 +339,7 @@ class Cases:
 LAST_LINE = b"status 9", b"status 0"
 
 
-def refuse_in_lists(cases, given, tally):
+def refuse_in_lists(cases: Cases, given: list[Given], tally: Tally) -> None:
     """Refuses each allocation of a run of lines over lists."""
     room = 3 * sum(len(line) + len(wanted or b"") + 2 for line, wanted in given) + 1000
     at = 0
@@ -341,7 +357,7 @@ def refuse_in_lists(cases, given, tally):
             tally.add("done without")
 
 
-def look_behind(cases, given, at, room, wanted, came):
+def look_behind(cases: Cases, given: list[Given], at: int, room: int, wanted: bytes, came: bytes) -> None:
     """A line was answered by a fault: sees that all is as wanted where it comes once more."""
     for place, (line, answer) in enumerate(given):
         # where several lines have the same answer, one of them was refused
@@ -353,7 +369,7 @@ def look_behind(cases, given, at, room, wanted, came):
     raise Bad(f"allocation {at}: wanted {wanted.decode()}\ncame {came.decode()}")
 
 
-def sweep_lists(program, page, folder, are_all):
+def sweep_lists(program: str, page: Page, folder: str, are_all: bool) -> None:
     tally, count = Tally("lists"), 0
     cases = Cases(program, page, folder)
     for name, given in examples(are_all):
@@ -371,42 +387,42 @@ def sweep_lists(program, page, folder, are_all):
 class Store:
     """The program, and a store in a folder of its own."""
 
-    def __init__(self, program, page, folder):
+    def __init__(self, program: str, page: Page, folder: str):
         self.program, self.page, self.folder = program, page, folder
         self.path = os.path.join(folder, "queue.db")
-        self.saved = {}
+        self.saved: dict[str, bytes] = {}
         self.pages = os.path.join(folder, "pages.csv")
         with open(self.pages, "w", encoding="ascii") as file:
             file.write("batch,account,pages\nf24,alice,100\nf24,bob,40\n")
 
-    def words(self, command, *words):
+    def words(self, command: str, *words: str) -> list[str]:
         return [self.program, command, "--store", self.path, *words]
 
-    def init_words(self):
+    def init_words(self) -> list[str]:
         return self.words("init", "--uri", "ipp://localhost/ipp/print", "--name", "release")
 
-    def files(self):
+    def files(self) -> list[str]:
         """The store's files, by their names in the folder."""
         return [name for name in os.listdir(self.folder) if name.startswith("queue.db")]
 
-    def clear(self):
+    def clear(self) -> None:
         for name in self.files():
             os.unlink(os.path.join(self.folder, name))
 
-    def save(self):
+    def save(self) -> None:
         """Keeps what the files hold now."""
         self.saved = {}
         for name in self.files():
             with open(os.path.join(self.folder, name), "rb") as file:
                 self.saved[name] = file.read()
 
-    def put_back(self):
+    def put_back(self) -> None:
         self.clear()
         for name, content in self.saved.items():
             with open(os.path.join(self.folder, name), "wb") as file:
                 file.write(content)
 
-    def run(self, words, at=0):
+    def run(self, words: list[str], at: int = 0) -> Outcome:
         """The status of the program and what it prints, with an allocation refused."""
         self.page.restart(at)
         done = subprocess.run(words, capture_output=True, text=True, env=self.page.environment, check=False)
@@ -418,20 +434,22 @@ class Store:
         connection.executescript(statements)
         connection.close()
 
-    def shown(self, query: str) -> list[tuple]:
+    def shown(self, query: str) -> list[tuple[object, ...]]:
         """The rows that a query shows, as the shell of SQLite reads them."""
         connection = sqlite3.connect(self.path)
         rows = connection.execute(query).fetchall()
         connection.close()
         return rows
 
-    def must(self, words: list[str], wanted: tuple[int, str, str]) -> None:
+    def must(self, words: list[str], wanted: Outcome) -> None:
         came = self.run(words)
         if came != wanted:
             raise Bad(f"{words[1]} without a refusal: {came}")
 
 
-def sweep_command(store, tally, words, wanted, faults, look):
+def sweep_command(
+    store: Store, tally: Tally, words: list[str], wanted: Outcome, faults: list[Outcome], look: Callable[[bool], None]
+) -> None:
     """Refuses each allocation of a command, and looks at the store behind each run of which one was refused."""
     at = 0
     while True:
@@ -447,7 +465,7 @@ def sweep_command(store, tally, words, wanted, faults, look):
         look(came == wanted)
 
 
-def sweep_commands(program, page, folder):
+def sweep_commands(program: str, page: Page, folder: str) -> None:
     tally = Tally("commands")
     store = Store(program, page, folder)
     no_account = 1, "", "printd: no account\n"
@@ -461,7 +479,7 @@ def sweep_commands(program, page, folder):
         "     total              40         0\n"
     )
 
-    def look_at_new(is_done):
+    def look_at_new(is_done: bool) -> None:
         """A store that was made is one. Where it was not, it can be made over what is left of it."""
         if is_done:
             store.must(store.words("statement", "alice"), no_account)
@@ -469,12 +487,12 @@ def sweep_commands(program, page, folder):
             store.must(store.init_words(), (0, "", ""))
         store.clear()
 
-    def put_back(is_done):
+    def put_back(is_done: bool) -> None:
         """Where the file was taken, the store is what it was before. Else it has to be that already: in the end each row is new."""
         if is_done:
             store.put_back()
 
-    def keep(is_done):
+    def keep(is_done: bool) -> None:
         pass
 
     def put_back_operators(is_done: bool) -> None:
@@ -527,78 +545,82 @@ def sweep_commands(program, page, folder):
 # ---- a server
 
 
-def post(message):
-    return message, http("POST /ipp/print", "application/ipp", message.spelled(7))
+# What is asked of a server: a message, a line of the device, or a path; and the bytes of the request.
+Event = Union[Draft, bytes, str]
+Asked = tuple[Event, bytes]
+# A status, the content, or None if it is broken off, and how many requests of the connection acted.
+Came = tuple[int, Optional[bytes], int]
+REQUEST_ID = 7
 
 
-def report(line):
-    return line, http("POST /device/report", "text/plain", line + b"\n")
+def post(message: Draft) -> Asked:
+    return message, posting.post(message, REQUEST_ID)
 
 
-def get(path):
-    return path, f"GET {path} HTTP/1.0\r\n\r\n".encode()
+def report(line: bytes) -> Asked:
+    return line, posting.report(line)
 
 
-def http(target, kind, body):
-    return f"{target} HTTP/1.0\r\nContent-Type: {kind}\r\nContent-Length: {len(body)}\r\n\r\n".encode() + body
+def get(path: str) -> Asked:
+    return path, posting.get(path)
 
 
-def chunked(message):
+def chunked(message: Draft) -> Asked:
     """A request whose body comes in two chunks."""
-    body = message.spelled(7)
+    body = message.spelled(REQUEST_ID)
     pieces = b"".join(b"%x\r\n%s\r\n" % (len(piece), piece) for piece in (body[:70], body[70:], b""))
     return message, b"POST /ipp/print HTTP/1.0\r\nContent-Type: application/ipp\r\nTransfer-Encoding: chunked\r\n\r\n" + pieces
 
 
 LARGE = 70_000 * b"a"
-SHOWN = attribute(KEYWORD, "requested-attributes", "job-id", "job-state", "job-state-reasons", "job-impressions-completed")
-EVENTS = [
-    post(request(GET_PRINTER_ATTRIBUTES, attribute(KEYWORD, "requested-attributes", "printer-state", "queued-job-count"))),
-    post(request(PRINT_JOB, payload=b"hi")),
-    post(request(VALIDATE_JOB)),
-    post(job_request(RELEASE_JOB, 1)),
+SHOWN = attribute(Tag.KEYWORD, "requested-attributes", "job-id", "job-state", "job-state-reasons", "job-impressions-completed")
+EVENTS: list[Asked] = [
+    post(request(Operation.GET_PRINTER_ATTRIBUTES, attribute(Tag.KEYWORD, "requested-attributes", "printer-state", "queued-job-count"))),
+    post(request(Operation.PRINT_JOB, payload=b"hi")),
+    post(request(Operation.VALIDATE_JOB)),
+    post(job_request(Operation.RELEASE_JOB, 1)),
     get("/device/queue"),
     get("/device/document/1/1"),
     report(b"1 1 start 0"),
     report(b"1 1 start"),
-    chunked(request(CREATE_JOB, caller="bob")),
-    chunked(job_request(SEND_DOCUMENT, 2, record(BOOLEAN, "last-document", False), caller="bob", payload=LARGE)),
-    post(job_request(SEND_DOCUMENT, 2, record(BOOLEAN, "last-document", True), caller="bob", payload=b"end")),
+    chunked(request(Operation.CREATE_JOB, caller="bob")),
+    chunked(job_request(Operation.SEND_DOCUMENT, 2, record(Tag.BOOLEAN, "last-document", False), caller="bob", payload=LARGE)),
+    post(job_request(Operation.SEND_DOCUMENT, 2, record(Tag.BOOLEAN, "last-document", True), caller="bob", payload=b"end")),
     report(b"1 2 count 12"),
-    post(job_request(RELEASE_JOB, 2, caller="bob")),
-    post(job_request(HOLD_JOB, 2, caller="bob")),
-    post(job_request(RELEASE_JOB, 2, caller="bob")),
+    post(job_request(Operation.RELEASE_JOB, 2, caller="bob")),
+    post(job_request(Operation.HOLD_JOB, 2, caller="bob")),
+    post(job_request(Operation.RELEASE_JOB, 2, caller="bob")),
     report(b"2 1 start 0"),
     get("/device/document/2/1"),
     get("/device/document/2/2"),
     report(b"2 2 stop 1"),
-    post(job_request(CANCEL_JOB, 2, caller="bob")),
-    post(job_request(CANCEL_JOB, 2, caller="bob")),
+    post(job_request(Operation.CANCEL_JOB, 2, caller="bob")),
+    post(job_request(Operation.CANCEL_JOB, 2, caller="bob")),
     report(b"2 3 halt 2"),
     report(b"1 3 done 25"),
     report(b"1 3 done 25"),
     report(b"1 3 done 26"),
-    post(request(PRINT_JOB, record(INTEGER, "job-impressions", 3), payload=b"hi")),
-    post(request(PRINT_JOB, payload=LARGE)),
-    post(request(CANCEL_MY_JOBS, attribute(INTEGER, "job-ids", 3, 4))),
-    post(request(CANCEL_MY_JOBS, attribute(INTEGER, "job-ids", 3, 9))),
-    post(request(GET_JOBS, SHOWN)),
-    post(request(GET_JOBS, record(KEYWORD, "which-jobs", "completed"), SHOWN)),
-    post(job_request(GET_JOB_ATTRIBUTES, 1, SHOWN)),
-    post(job_request(GET_JOB_ATTRIBUTES, 1, SHOWN, caller="bob")),
+    post(request(Operation.PRINT_JOB, record(Tag.INTEGER, "job-impressions", 3), payload=b"hi")),
+    post(request(Operation.PRINT_JOB, payload=LARGE)),
+    post(request(Operation.CANCEL_MY_JOBS, attribute(Tag.INTEGER, "job-ids", 3, 4))),
+    post(request(Operation.CANCEL_MY_JOBS, attribute(Tag.INTEGER, "job-ids", 3, 9))),
+    post(request(Operation.GET_JOBS, SHOWN)),
+    post(request(Operation.GET_JOBS, record(Tag.KEYWORD, "which-jobs", "completed"), SHOWN)),
+    post(job_request(Operation.GET_JOB_ATTRIBUTES, 1, SHOWN)),
+    post(job_request(Operation.GET_JOB_ATTRIBUTES, 1, SHOWN, caller="bob")),
     # an operator lists, sees and cancels a job that waits and one that prints
-    post(request(PRINT_JOB, record(INTEGER, "job-impressions", 3), payload=b"hi")),
-    post(request(PRINT_JOB, record(INTEGER, "job-impressions", 3), payload=b"hi")),
-    post(job_request(RELEASE_JOB, 5)),
-    post(job_request(RELEASE_JOB, 6)),
+    post(request(Operation.PRINT_JOB, record(Tag.INTEGER, "job-impressions", 3), payload=b"hi")),
+    post(request(Operation.PRINT_JOB, record(Tag.INTEGER, "job-impressions", 3), payload=b"hi")),
+    post(job_request(Operation.RELEASE_JOB, 5)),
+    post(job_request(Operation.RELEASE_JOB, 6)),
     report(b"6 1 start 0"),
-    post(request(GET_JOBS, SHOWN, caller="opal")),
-    post(request(GET_JOBS, record(BOOLEAN, "my-jobs", True), SHOWN, caller="opal")),
-    post(request(GET_JOBS, record(KEYWORD, "which-jobs", "completed"), SHOWN, caller="opal")),
-    post(job_request(GET_JOB_ATTRIBUTES, 1, SHOWN, caller="opal")),
-    post(job_request(CANCEL_JOB, 5, caller="opal")),
-    post(job_request(CANCEL_JOB, 6, caller="opal")),
-    post(job_request(CANCEL_JOB, 6)),
+    post(request(Operation.GET_JOBS, SHOWN, caller="opal")),
+    post(request(Operation.GET_JOBS, record(Tag.BOOLEAN, "my-jobs", True), SHOWN, caller="opal")),
+    post(request(Operation.GET_JOBS, record(Tag.KEYWORD, "which-jobs", "completed"), SHOWN, caller="opal")),
+    post(job_request(Operation.GET_JOB_ATTRIBUTES, 1, SHOWN, caller="opal")),
+    post(job_request(Operation.CANCEL_JOB, 5, caller="opal")),
+    post(job_request(Operation.CANCEL_JOB, 6, caller="opal")),
+    post(job_request(Operation.CANCEL_JOB, 6)),
     report(b"6 2 halt 1"),
     get("/device/queue"),
     get("/device/document/1/1"),
@@ -607,12 +629,12 @@ EVENTS = [
 DOCUMENTS = {"/device/document/1/1": b"hi", "/device/document/2/1": LARGE, "/device/document/2/2": b"end"}
 
 
-def wanted_of(queue, event):
+def wanted_of(queue: Queue, event: Event) -> Came:
     """The status and the content that are to answer an event, by the second queue, and how many requests have acted."""
     if isinstance(event, bytes):
         return 200, queue.report(event, 1) + b"\n", 1
     if not isinstance(event, str):
-        return 200, queue.answer(event.spelled(7), 1), 1
+        return 200, queue.answer(event.spelled(REQUEST_ID), 1), 1
     if event == "/device/queue":
         rows = [(job.number, job.copies, job.documents, job.octets) for job in queue.jobs.values() if job.state == 3]
         return 200, b"".join(b"%d %d %d %d\n" % row for row in rows), 0
@@ -621,67 +643,60 @@ def wanted_of(queue, event):
     return 404, b"", 0
 
 
-def faults_of(event, wanted):
+def faults_of(event: Event, wanted: Came) -> dict[Came, str]:
     """How want of memory is answered on an event, with what is said of it."""
-    faults = {(503, b"", 0): "told by status 503"}
+    faults: dict[Came, str] = {(503, b"", 0): "told by status 503"}
     if isinstance(event, bytes) and wanted[1] != b"refused 1 syntax\n":
         faults[200, b"refused 6 fault\n", 1] = "told as a fault"
     if not isinstance(event, (bytes, str)):
-        faults[200, reply(0x0505).spelled(7), 1] = "told as a fault"
+        faults[200, reply(0x0505).spelled(REQUEST_ID), 1] = "told as a fault"
     if event in DOCUMENTS and wanted[0] == 200:
         faults[200, None, 0] = "broken off behind the head"
     return faults
 
 
+def started(store: Store, at: int = 0) -> Served:
+    """A server of a store, which was started with an allocation refused."""
+    store.page.restart(at)
+    return Served(store.path, program=store.program, environment=store.page.environment, keeps_errors=True)
+
+
 class Server:
-    """A server of a store, on a port of its own."""
+    """A server of a store, which is started anew if a request that it has done is to come again."""
 
-    def __init__(self, store, at=0):
-        self.store = store
-        self.start(at)
+    def __init__(self, store: Store):
+        self.store, self.served = store, started(store)
 
-    def start(self, at=0):
-        """Starts it, with an allocation refused."""
-        self.port = free_port()
-        words = self.store.words("serve", "--port", str(self.port), "--connections", "4294967295")
-        self.store.page.restart(at)
-        streams = {"stdout": subprocess.PIPE, "stderr": subprocess.PIPE}
-        self.process = subprocess.Popen(words, env=self.store.page.environment, **streams)
-        self.is_listening = self.process.stdout.readline().startswith(b"listening ")
-
-    def exchange(self, asked):
-        """The status and the content that answer a request, by a connection of its own, and how many of its requests acted. There is no
-        content where it is broken off, and the status is 0 where the server has ended.
-        """
-        try:
-            with socket.create_connection(("127.0.0.1", self.port)) as client:
-                client.sendall(asked)
-                answer = b"".join(iter(lambda: client.recv(1 << 16), b""))
-        except ConnectionError:
-            answer = b""
-        told = self.process.stdout.readline()
-        if not told or not answer:
-            return 0, answer, 0
-        acted = int(told.removeprefix(b"served "))
-        head, _, content = answer.partition(b"\r\n\r\n")
-        length = int(head.partition(b"\r\nContent-Length: ")[2].split(b"\r\n")[0])
-        return int(head.split()[1]), content if len(content) == length else None, acted
-
-    def stop(self):
-        self.process.kill()
-        self.process.communicate()
+    def start_again(self) -> None:
+        """Over the store as it was saved."""
+        self.served.stop()
+        self.store.put_back()
+        self.served = started(self.store)
 
 
-def refuse_in_event(server, event, asked, wanted, tally):
+def exchange(server: Served, asked: bytes) -> Came:
+    """What answers a request, by a connection of its own. The status is 0 if the server has ended."""
+    try:
+        came = posting.exchange(server.port, asked)
+    except ConnectionError:
+        came = b""
+    told = server.line()
+    if not told or not came:
+        return 0, came, 0
+    answer = posting.answer_of(came)
+    return answer.head.status, answer.content if answer.is_whole else None, int(told.removeprefix(b"served "))
+
+
+def refuse_in_event(server: Server, event: Event, asked: bytes, wanted: Came, tally: Tally) -> None:
     """Refuses each allocation of one request."""
     store, at = server.store, 0
     while True:
         at += 1
-        wait(server.process)
+        wait(server.served.process)
         if at == 1:
             store.save()
         store.page.refuse(at)
-        came = server.exchange(asked)
+        came = exchange(server.served, asked)
         if not store.page.was_refused():
             if came != wanted:
                 raise Bad(f"without a refusal: {came}, wanted {wanted}")
@@ -694,17 +709,15 @@ def refuse_in_event(server, event, asked, wanted, tally):
             raise Bad(f"allocation {at}: {came}, wanted {wanted}")
         # the request is done: it is handed in anew to refuse the next
         tally.add("done without")
-        server.stop()
-        store.put_back()
-        server.start()
+        server.start_again()
 
 
-def sweep_start(store, tally):
+def sweep_start(store: Store, tally: Tally) -> None:
     """Refuses each allocation of a server until it listens."""
     at = 0
     while True:
         at += 1
-        server = Server(store, at)
+        server = started(store, at)
         if server.is_listening:
             is_refused = store.page.was_refused()
             server.stop()
@@ -712,13 +725,13 @@ def sweep_start(store, tally):
                 return
             tally.add("done without as it starts")
             continue
-        out, said = server.process.communicate()
-        if (server.process.returncode, out.decode(), said.decode()) != ENDED:
-            raise Bad(f"allocation {at} of a server that starts: {server.process.returncode} {out} {said}")
+        status, out, said = server.end()
+        if (status, (server.first_line + out).decode(), said.decode()) != ENDED:
+            raise Bad(f"allocation {at} of a server that starts: {status} {out!r} {said!r}")
         tally.add("ended with `printd: memory` as it starts")
 
 
-def sweep_serve(program, page, folder):
+def sweep_serve(program: str, page: Page, folder: str) -> None:
     tally = Tally("serve")
     store = Store(program, page, folder)
     store.clear()
@@ -729,25 +742,26 @@ def sweep_serve(program, page, folder):
     queue = Queue()
     queue.grant(b"f24,alice,100\nf24,bob,40\n")
     server = Server(store)
+    event: Event = "start"
     try:
         for event, asked in EVENTS:
             refuse_in_event(server, event, asked, wanted_of(queue, event), tally)
-        server.stop()
+        server.served.stop()
         event = "start"
         sweep_start(store, tally)
     except Bad as bad:
-        sys.exit(f"tests/memory.py: serve: {event}: {bad}")
+        sys.exit(f"tests/memory.py: serve: {event!r}: {bad}")
     finally:
-        server.stop()
+        server.served.stop()
     tally.tell(f"{len(EVENTS)} requests and the start")
 
 
-def main():
+def main() -> None:
     parser = argparse.ArgumentParser(description=__doc__, formatter_class=argparse.RawDescriptionHelpFormatter)
     parts = ["replay", "lists", "serve", "commands"]
     parser.add_argument("parts", nargs="*", metavar="PART", help="replay, lists, serve or commands (all four)")
     parser.add_argument("--all", action="store_true", help="all worked examples of these modules, for an hour")
-    parser.add_argument("--program", default=PROGRAM, metavar="PATH", help="printd (the built one)")
+    parser.add_argument("--program", default=str(PROGRAM), metavar="PATH", help="printd (the built one)")
     cases = os.path.join(TOP, "crates", "replay_cases", "out", "replay_cases")
     parser.add_argument("--cases", default=cases, metavar="PATH", help="the program of the worked examples (the built one)")
     words = parser.parse_args()

@@ -10,8 +10,8 @@ from pathlib import Path
 from typing import Union
 
 TOP = Path(__file__).resolve().parents[2]
-# who imports this finds the programs' modules
-sys.path.insert(0, str(TOP / "tools" / "lib"))
+# who imports this finds the shared modules of tests and of programs
+sys.path[:0] = [f"{TOP}/tests/lib", f"{TOP}/tools/lib"]
 # their first lines name Debian's Python, for which this one does as well
 BACKEND = (sys.executable, "-I", f"{TOP}/tools/cups-gateway/release")
 PRINT_PAGES = (sys.executable, "-I", f"{TOP}/tools/cups-gateway/print-pages")

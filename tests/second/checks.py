@@ -1,37 +1,23 @@
 """What a request asks, and the checks that refuse it ("Checks", "Attributes of requests" and "What is unsupported" in
-docs/protocol.md)."""
+docs/reference/ipp.md)."""
+from __future__ import annotations
+
+from collections.abc import Callable, Collection, Iterable
 from dataclasses import dataclass, field
+from typing import Optional
 
-from ipp import (
-    BOOLEAN,
-    CANCEL_JOB,
-    CANCEL_MY_JOBS,
-    CHARSET,
-    CREATE_JOB,
-    GET_JOB_ATTRIBUTES,
-    GET_JOBS,
-    GET_PRINTER_ATTRIBUTES,
-    HOLD_JOB,
-    INTEGER,
-    KEYWORD,
-    LANGUAGE,
-    MEDIA_TYPE,
-    NAME,
-    NAME_WITH_LANGUAGE,
-    PRINT_JOB,
-    RELEASE_JOB,
-    SEND_DOCUMENT,
-    UNSUPPORTED,
-    URI,
-    VALIDATE_JOB,
-)
-from second.reading import Malformed, read
+from ipp import Operation, Tag
+from second.reading import Attribute, Group, Malformed, Tagged, read
 
-NEW_JOB = {PRINT_JOB, VALIDATE_JOB, CREATE_JOB}
-WITH_DOCUMENT = {PRINT_JOB, VALIDATE_JOB, SEND_DOCUMENT}
-ON_JOB = {SEND_DOCUMENT, CANCEL_JOB, GET_JOB_ATTRIBUTES, HOLD_JOB, RELEASE_JOB}
-WITH_NAMES = {GET_JOB_ATTRIBUTES, GET_JOBS, GET_PRINTER_ATTRIBUTES}
-OPERATIONS = NEW_JOB | ON_JOB | WITH_NAMES | {CANCEL_MY_JOBS}
+NEW_JOB = {Operation.PRINT_JOB, Operation.VALIDATE_JOB, Operation.CREATE_JOB}
+WITH_DOCUMENT = {Operation.PRINT_JOB, Operation.VALIDATE_JOB, Operation.SEND_DOCUMENT}
+ON_JOB = {Operation.SEND_DOCUMENT, Operation.CANCEL_JOB, Operation.GET_JOB_ATTRIBUTES, Operation.HOLD_JOB, Operation.RELEASE_JOB}
+WITH_NAMES = {Operation.GET_JOB_ATTRIBUTES, Operation.GET_JOBS, Operation.GET_PRINTER_ATTRIBUTES}
+OPERATIONS = NEW_JOB | ON_JOB | WITH_NAMES | {Operation.CANCEL_MY_JOBS}
+
+# What is unsupported: a name and its values. What a request has of the attributes that are known: their values by name.
+Listed = tuple[bytes, list[Tagged]]
+Known = dict[bytes, list[Tagged]]
 
 LAST_JOB = 2_147_483_647
 MOST_IMPRESSIONS = 100_000
@@ -49,18 +35,19 @@ FORMATS = {
 class Refused(Exception):
     """A status code, and what is unsupported where the code is 0x040B."""
 
-    def __init__(self, code, listed=()):
+    def __init__(self, code: int, listed: Iterable[Listed] = ()):
+        super().__init__(code)
         self.code = code
         self.listed = list(listed)
 
 
-def signed(octets):
+def signed(octets: bytes) -> int:
     return int.from_bytes(octets, "big", signed=True)
 
 
-def name_of(tag, octets):
+def name_of(tag: int, octets: bytes) -> bytes | None:
     """The text of a name, and none where it is no nameWithLanguage."""
-    if tag != NAME_WITH_LANGUAGE:
+    if tag != Tag.NAME_WITH_LANGUAGE:
         return octets
     rest = octets
     for _ in range(2):
@@ -71,7 +58,7 @@ def name_of(tag, octets):
     return text if not rest else None
 
 
-def is_text(octets, banned):
+def is_text(octets: bytes, banned: Iterable[int]) -> bool:
     try:
         octets.decode()
     except UnicodeDecodeError:
@@ -79,59 +66,59 @@ def is_text(octets, banned):
     return not set(octets) & set(banned)
 
 
-def any_form(tag, octets):
+def any_form(tag: int, octets: bytes) -> bool:
     return True
 
 
-def number_form(tag, octets):
+def number_form(tag: int, octets: bytes) -> bool:
     return len(octets) == 4
 
 
-def limit_form(tag, octets):
+def limit_form(tag: int, octets: bytes) -> bool:
     return len(octets) == 4 and signed(octets) >= 1
 
 
-def truth_form(tag, octets):
+def truth_form(tag: int, octets: bytes) -> bool:
     return octets in (b"\x00", b"\x01")
 
 
-def user_form(tag, octets):
+def user_form(tag: int, octets: bytes) -> bool:
     name = name_of(tag, octets)
     return name is not None and is_text(name, [*range(0x20), 0x7F])
 
 
-def text_form(tag, octets):
+def text_form(tag: int, octets: bytes) -> bool:
     name = name_of(tag, octets)
     return name is not None and is_text(name, [0])
 
 
-def hold_form(tag, octets):
+def hold_form(tag: int, octets: bytes) -> bool:
     return name_of(tag, octets) is not None
 
 
 # tags, whether there may be several values, form, limit, operations that know it
-KNOWN = {
-    b"printer-uri": ({URI}, False, any_form, 1023, OPERATIONS),
-    b"requesting-user-name": ({NAME, NAME_WITH_LANGUAGE}, False, user_form, 255, OPERATIONS),
-    b"job-uri": ({URI}, False, any_form, 1023, ON_JOB),
-    b"job-id": ({INTEGER}, False, number_form, None, ON_JOB),
-    b"job-name": ({NAME, NAME_WITH_LANGUAGE}, False, text_form, 255, NEW_JOB),
-    b"document-name": ({NAME, NAME_WITH_LANGUAGE}, False, text_form, 255, WITH_DOCUMENT),
-    b"ipp-attribute-fidelity": ({BOOLEAN}, False, truth_form, None, NEW_JOB),
-    b"compression": ({KEYWORD}, False, any_form, 255, WITH_DOCUMENT),
-    b"document-format": ({MEDIA_TYPE}, False, any_form, 255, WITH_DOCUMENT | {GET_PRINTER_ATTRIBUTES}),
-    b"job-impressions": ({INTEGER}, False, number_form, None, NEW_JOB),
-    b"last-document": ({BOOLEAN}, False, truth_form, None, {SEND_DOCUMENT}),
-    b"job-ids": ({INTEGER}, True, number_form, None, {CANCEL_MY_JOBS}),
-    b"job-hold-until": ({KEYWORD, NAME, NAME_WITH_LANGUAGE}, False, hold_form, 255, {HOLD_JOB}),
-    b"requested-attributes": ({KEYWORD}, True, any_form, 255, WITH_NAMES),
-    b"which-jobs": ({KEYWORD}, False, any_form, 255, {GET_JOBS}),
-    b"limit": ({INTEGER}, False, limit_form, None, {GET_JOBS}),
-    b"my-jobs": ({BOOLEAN}, False, truth_form, None, {GET_JOBS}),
+KNOWN: dict[bytes, tuple[set[Tag], bool, Callable[[int, bytes], bool], Optional[int], Collection[int]]] = {
+    b"printer-uri": ({Tag.URI}, False, any_form, 1023, OPERATIONS),
+    b"requesting-user-name": ({Tag.NAME, Tag.NAME_WITH_LANGUAGE}, False, user_form, 255, OPERATIONS),
+    b"job-uri": ({Tag.URI}, False, any_form, 1023, ON_JOB),
+    b"job-id": ({Tag.INTEGER}, False, number_form, None, ON_JOB),
+    b"job-name": ({Tag.NAME, Tag.NAME_WITH_LANGUAGE}, False, text_form, 255, NEW_JOB),
+    b"document-name": ({Tag.NAME, Tag.NAME_WITH_LANGUAGE}, False, text_form, 255, WITH_DOCUMENT),
+    b"ipp-attribute-fidelity": ({Tag.BOOLEAN}, False, truth_form, None, NEW_JOB),
+    b"compression": ({Tag.KEYWORD}, False, any_form, 255, WITH_DOCUMENT),
+    b"document-format": ({Tag.MEDIA_TYPE}, False, any_form, 255, WITH_DOCUMENT | {Operation.GET_PRINTER_ATTRIBUTES}),
+    b"job-impressions": ({Tag.INTEGER}, False, number_form, None, NEW_JOB),
+    b"last-document": ({Tag.BOOLEAN}, False, truth_form, None, {Operation.SEND_DOCUMENT}),
+    b"job-ids": ({Tag.INTEGER}, True, number_form, None, {Operation.CANCEL_MY_JOBS}),
+    b"job-hold-until": ({Tag.KEYWORD, Tag.NAME, Tag.NAME_WITH_LANGUAGE}, False, hold_form, 255, {Operation.HOLD_JOB}),
+    b"requested-attributes": ({Tag.KEYWORD}, True, any_form, 255, WITH_NAMES),
+    b"which-jobs": ({Tag.KEYWORD}, False, any_form, 255, {Operation.GET_JOBS}),
+    b"limit": ({Tag.INTEGER}, False, limit_form, None, {Operation.GET_JOBS}),
+    b"my-jobs": ({Tag.BOOLEAN}, False, truth_form, None, {Operation.GET_JOBS}),
 }
 
 
-def path(uri):
+def path(uri: bytes) -> bytes | None:
     """The path of a URI, and none where it has none."""
     _, mark, rest = uri.partition(b"://")
     at = rest.find(b"/")
@@ -141,7 +128,7 @@ def path(uri):
     return rest[at : min([end for end in ends if end >= 0], default=None)]
 
 
-def job_of_uri(uri):
+def job_of_uri(uri: bytes) -> int | None:
     """The number of a job that a URI names, and none where it names none."""
     front = b"/ipp/print/"
     own = path(uri) or b""
@@ -151,20 +138,20 @@ def job_of_uri(uri):
     return int(digits) if int(digits) <= LAST_JOB else None
 
 
-def format_of(octets):
+def format_of(octets: bytes) -> bytes:
     return octets.partition(b";")[0].rstrip(b" ").lower()
 
 
-def is_supported_in_job(attribute):
+def is_supported_in_job(attribute: Attribute) -> bool:
     """Whether an attribute of the job group has a supported form."""
     if len(attribute.values) != 1:
         return False
     tag, octets = attribute.values[0]
     if attribute.name == b"copies":
-        return tag == INTEGER and len(octets) == 4 and 1 <= signed(octets) <= 999
+        return tag == Tag.INTEGER and len(octets) == 4 and 1 <= signed(octets) <= 999
     if attribute.name == b"job-impressions":
-        return tag == INTEGER and len(octets) == 4 and 0 <= signed(octets) <= MOST_IMPRESSIONS
-    return attribute.name == b"job-hold-until" and (tag, octets) == (KEYWORD, b"indefinite")
+        return tag == Tag.INTEGER and len(octets) == 4 and 0 <= signed(octets) <= MOST_IMPRESSIONS
+    return attribute.name == b"job-hold-until" and (tag, octets) == (Tag.KEYWORD, b"indefinite")
 
 
 @dataclass
@@ -174,24 +161,25 @@ class Asked:
     operation: int
     caller: bytes
     payload: bytes
-    values: dict
-    job_values: dict = field(default_factory=dict)
+    values: dict[bytes, Tagged]
+    job_values: dict[bytes, bytes] = field(default_factory=dict)
+    # 0 if it is about none
     job: int = 0
-    jobs: list = None
-    names: list = None
-    listed: list = field(default_factory=list)
+    jobs: Optional[list[int]] = None
+    names: Optional[list[bytes]] = None
+    listed: list[Listed] = field(default_factory=list)
 
 
-def unknown(attribute):
-    return attribute.name, [(UNSUPPORTED, b"")]
+def unknown(attribute: Attribute) -> Listed:
+    return attribute.name, [(Tag.UNSUPPORTED, b"")]
 
 
-def firsts(group):
+def firsts(group: Group) -> list[Attribute]:
     """The attributes of a group that count."""
     return [attribute for attribute in group.attributes if attribute is group.first(attribute.name)]
 
 
-def asked(operation, body):
+def asked(operation: int, body: bytes) -> Asked:
     """What a request asks whose head is supported."""
     try:
         groups, payload = read(body)
@@ -201,7 +189,7 @@ def asked(operation, body):
     if first is None or first.tag != 0x01 or len(first.attributes) < 2:
         raise Refused(0x0400)
     for attribute, name, tag in zip(
-        first.attributes, (b"attributes-charset", b"attributes-natural-language"), (CHARSET, LANGUAGE)
+        first.attributes, (b"attributes-charset", b"attributes-natural-language"), (Tag.CHARSET, Tag.LANGUAGE)
     ):
         if attribute.name != name or [value[0] for value in attribute.values] != [tag]:
             raise Refused(0x0400)
@@ -224,7 +212,7 @@ def asked(operation, body):
     return found
 
 
-def check_forms(known, language):
+def check_forms(known: Known, language: bytes) -> None:
     for name, values in known.items():
         tags, are_many, form, _, _ = KNOWN[name]
         if len(values) > 1 and not are_many:
@@ -235,26 +223,26 @@ def check_forms(known, language):
         raise Refused(0x0409)
     for name, values in known.items():
         limit = KNOWN[name][3]
-        if limit is not None and any(len(name_of(tag, octets)) > limit for tag, octets in values):
+        if limit is not None and any(len(name_of(tag, octets) or b"") > limit for tag, octets in values):
             raise Refused(0x0409)
 
 
-def check_target(found, known):
+def check_target(found: Asked, known: Known) -> None:
     needed = [b"printer-uri"]
     if found.operation in ON_JOB:
         needed = [b"job-uri"] if b"job-uri" in known else [b"printer-uri", b"job-id"]
-    if found.operation == SEND_DOCUMENT:
+    if found.operation == Operation.SEND_DOCUMENT:
         needed.append(b"last-document")
     if any(name not in known for name in needed):
         raise Refused(0x0400)
     if b"job-uri" in known:
-        found.job = job_of_uri(found.values[b"job-uri"][1])
+        found.job = job_of_uri(found.values[b"job-uri"][1]) or 0
     else:
         if path(found.values[b"printer-uri"][1]) != b"/ipp/print":
             raise Refused(0x0406)
         if found.operation in ON_JOB:
             found.job = signed(found.values[b"job-id"][1])
-    if found.operation in ON_JOB and (found.job is None or found.job < 1):
+    if found.operation in ON_JOB and found.job < 1:
         raise Refused(0x0406)
     if b"job-ids" in known:
         found.jobs = [signed(octets) for _, octets in known[b"job-ids"]]
@@ -262,23 +250,23 @@ def check_target(found, known):
             raise Refused(0x0406)
 
 
-def check_values(found, known):
-    if found.values.get(b"compression", (KEYWORD, b"none"))[1] != b"none":
+def check_values(found: Asked, known: Known) -> None:
+    if found.values.get(b"compression", (Tag.KEYWORD, b"none"))[1] != b"none":
         raise Refused(0x040F)
     if b"document-format" in known and format_of(found.values[b"document-format"][1]) not in FORMATS:
         raise Refused(0x040A)
 
 
-def is_supported(name, value):
+def is_supported(name: bytes, value: Tagged) -> bool:
     """Whether the value of a known operation attribute is supported."""
     if name == b"which-jobs":
         return value[1] in (b"completed", b"not-completed")
     if name == b"job-impressions":
         return 0 <= signed(value[1]) <= MOST_IMPRESSIONS
-    return name != b"job-hold-until" or value == (KEYWORD, b"indefinite")
+    return name != b"job-hold-until" or value == (Tag.KEYWORD, b"indefinite")
 
 
-def find_unsupported(found, known, groups):
+def find_unsupported(found: Asked, known: Known, groups: list[Group]) -> None:
     has_refused, has_job_listed = False, False
     for attribute in firsts(groups[0]):
         if attribute.name in known:
@@ -296,6 +284,6 @@ def find_unsupported(found, known, groups):
             has_job_listed = True
             is_known = attribute.name in (b"copies", b"job-hold-until", b"job-impressions")
             found.listed.append((attribute.name, attribute.values) if is_known else unknown(attribute))
-    is_strict = found.values.get(b"ipp-attribute-fidelity", (BOOLEAN, b"\x00"))[1] == b"\x01"
+    is_strict = found.values.get(b"ipp-attribute-fidelity", (Tag.BOOLEAN, b"\x00"))[1] == b"\x01"
     if has_refused or (is_strict and has_job_listed):
         raise Refused(0x040B, found.listed)

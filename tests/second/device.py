@@ -1,6 +1,11 @@
-"""Lines of the device (docs/device.md): what a line says, and what its kind does to a job."""
+"""Lines of the device (docs/guide/device.md): what a line says, and what its kind does to a job."""
+from __future__ import annotations
+
 import re
 from dataclasses import dataclass
+from typing import Optional
+
+from messages import Job
 
 LAST_NUMBER = 2_147_483_647
 MOST_PAGES = 100_000_000
@@ -9,7 +14,7 @@ NUMBER = rb"(0|[1-9][0-9]{0,9})"
 LINE = re.compile(rb"%s %s (start|stop|resume|count|done|fail|halt) %s" % (NUMBER, NUMBER, NUMBER))
 
 # by the kind: the states that it is taken in, and the state that the job is in then; a count is taken of every job that has begun
-KINDS = {
+KINDS: dict[bytes, tuple[set[int], Optional[int]]] = {
     b"start": ({3}, 5),
     b"stop": ({5}, 6),
     b"resume": ({6}, 5),
@@ -23,6 +28,10 @@ KINDS = {
 class RefusedReport(Exception):
     """A line that is refused, with the answer."""
 
+    def __init__(self, answer: bytes):
+        super().__init__(answer)
+        self.answer = answer
+
 
 @dataclass(frozen=True)
 class Report:
@@ -32,7 +41,7 @@ class Report:
     count: int
 
 
-def read_report(text):
+def read_report(text: bytes) -> Report:
     """The report of a line, without its line feed."""
     parts = LINE.fullmatch(text)
     if parts is None:
@@ -44,7 +53,7 @@ def read_report(text):
     return report
 
 
-def is_taken(report, job):
+def is_taken(report: Report, job: Job) -> bool:
     """Whether a job takes a report of this kind in its state."""
     if report.kind == b"count":
         return job.begun is not None

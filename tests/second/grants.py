@@ -1,6 +1,9 @@
-"""Account files (docs/accounts.md): the rows of a file, and which of them are new."""
+"""Account files (docs/guide/accounts.md): the rows of a file, and which of them are new."""
+from __future__ import annotations
+
 import re
 from collections import ChainMap
+from collections.abc import Iterator
 
 MOST_PAGES_OF_ROW = 1_000_000
 MOST_PAGES_OF_ACCOUNT = 1_000_000_000
@@ -12,18 +15,29 @@ PAGES = re.compile(rb"0|[1-9][0-9]*")
 FIELD = re.compile(rb'"((?:[^"]|"")*)(?:"|\Z)([^,\r\n]*)|([^,\r\n]*)')
 
 
+# A row: batch, account and pages. Grants are the pages by batch and account.
+Row = tuple[bytes, bytes, int]
+Grants = dict[tuple[bytes, bytes], int]
+
+
 class RefusedFile(Exception):
     """An account file that is refused, with the code."""
 
+    def __init__(self, code: int):
+        super().__init__(code)
+        self.code = code
 
-def records(text):
+
+def records(text: bytes) -> Iterator[list[bytes]]:
     """The records of comma-separated text (RFC 4180), as lists of fields. Empty lines are none."""
-    at, fields = 0, []
+    at = 0
+    fields: list[bytes] = []
     while at < len(text):
         if not fields and text[at : at + 1] in (b"\r", b"\n"):
             at += 1
             continue
         found = FIELD.match(text, at)
+        assert found is not None
         quoted, behind, plain = found.groups()
         fields.append(plain if quoted is None else quoted.replace(b'""', b'"') + behind)
         at = found.end() + 1
@@ -35,7 +49,7 @@ def records(text):
         fields = []
 
 
-def is_account(name):
+def is_account(name: bytes) -> bool:
     try:
         name.decode()
     except UnicodeDecodeError:
@@ -43,7 +57,7 @@ def is_account(name):
     return 1 <= len(name) <= 255 and not set(name) & {*range(0x20), 0x7F}
 
 
-def read_row(fields):
+def read_row(fields: list[bytes]) -> Row:
     """A row's batch, account and pages."""
     if len(fields) != 3:
         raise RefusedFile(2)
@@ -55,9 +69,9 @@ def read_row(fields):
     return batch, account, int(pages)
 
 
-def new_rows(rows, granted):
+def new_rows(rows: list[Row], granted: Grants) -> Grants:
     """The rows that are new beside those that are granted, as pages by batch and account."""
-    new = {}
+    new: Grants = {}
     known = ChainMap(new, granted)
     for batch, account, pages in rows:
         if (batch, account) in known:

@@ -1,8 +1,11 @@
-"""What a connection to the server answers, by the bytes that come in on it (docs/http.md)."""
+"""What a connection to the server answers, by the bytes that come in on it (docs/reference/http.md)."""
+from __future__ import annotations
+
 import re
 from dataclasses import dataclass, field
+from typing import Optional
 
-from second.checks import FORMATS, format_of
+from second.checks import FORMATS, Asked, format_of
 from second.queue import Queue
 
 MOST_HEAD_BYTES = 16_384
@@ -28,11 +31,23 @@ CONTINUE = b"HTTP/1.1 100 Continue\r\n\r\n"
 
 MESSAGES, REPORTS, QUEUE, DOCUMENTS = "messages", "reports", "queue", "documents"
 SEGMENT = rb"([^/]+)"
+
+
+@dataclass(frozen=True)
+class Route:
+    """The paths of a route, its name, its method and the media type of its body."""
+
+    paths: re.Pattern[bytes]
+    name: str
+    method: bytes
+    kind: Optional[bytes] = None
+
+
 ROUTES = [
-    (re.compile(rb"/ipp/print(?:/%s)?" % SEGMENT, re.DOTALL), MESSAGES, b"POST", b"application/ipp"),
-    (re.compile(rb"/device/report"), REPORTS, b"POST", b"text/plain"),
-    (re.compile(rb"/device/queue"), QUEUE, b"GET", None),
-    (re.compile(rb"/device/document/%s/%s" % (SEGMENT, SEGMENT), re.DOTALL), DOCUMENTS, b"GET", None),
+    Route(re.compile(rb"/ipp/print(?:/%s)?" % SEGMENT, re.DOTALL), MESSAGES, b"POST", b"application/ipp"),
+    Route(re.compile(rb"/device/report"), REPORTS, b"POST", b"text/plain"),
+    Route(re.compile(rb"/device/queue"), QUEUE, b"GET"),
+    Route(re.compile(rb"/device/document/%s/%s" % (SEGMENT, SEGMENT), re.DOTALL), DOCUMENTS, b"GET"),
 ]
 NUMBER = re.compile(rb"[1-9][0-9]{0,9}")
 
@@ -40,11 +55,12 @@ NUMBER = re.compile(rb"[1-9][0-9]{0,9}")
 class Refused(Exception):
     """A request that is refused by a status code."""
 
-    def __init__(self, code, allow=None):
+    def __init__(self, code: int, allow: bytes | None = None):
+        super().__init__(code)
         self.code = code
         self.allow = allow
 
-    def spelled(self):
+    def spelled(self) -> bytes:
         allow = b"" if self.allow is None else b"Allow: %s\r\n" % self.allow
         return b"HTTP/1.1 %d %s\r\n%sContent-Length: 0\r\nConnection: close\r\n\r\n" % (self.code, PHRASES[self.code], allow)
 
@@ -58,9 +74,9 @@ class Shelf(Queue):
 
     def __init__(self, seconds: int, operators: frozenset[bytes]) -> None:
         super().__init__(seconds, operators)
-        self.documents = {}
+        self.documents: dict[int, list[tuple[bytes, bytes]]] = {}
 
-    def act(self, request, now):
+    def act(self, request: Asked, now: int) -> list[bytes]:
         before = {job.number: job.documents for job in self.jobs.values()}
         groups = super().act(request, now)
         named = request.values.get(b"document-format")
@@ -71,15 +87,19 @@ class Shelf(Queue):
                 self.documents.setdefault(job.number, []).append((kind, request.payload))
         return groups
 
-    def document(self, number, place):
+    def document(self, number: int, place: int) -> tuple[bytes, bytes] | None:
         """A document of a job by its place from 1, as long as the device may have it."""
         job, kept = self.jobs.get(number), self.documents.get(number, [])
         return kept[place - 1] if job is not None and job.state in (3, 5, 6) and 1 <= place <= len(kept) else None
 
-    def text(self):
+    def text(self) -> bytes:
         """The queue of the device."""
         waiting = [job for job in self.jobs.values() if job.state == 3]
         return b"".join(b"%d %d %d %d\n" % (job.number, job.copies, job.documents, job.octets) for job in waiting)
+
+
+# The name and the value of a field line.
+Field = tuple[bytes, bytes]
 
 
 @dataclass
@@ -87,29 +107,30 @@ class Head:
     method: bytes
     target: bytes
     minor: int
-    fields: list = field(default_factory=list)
+    fields: list[Field] = field(default_factory=list)
 
-    def values(self, name):
+    def values(self, name: bytes) -> list[bytes]:
         """The values of the field lines of a name, which is told in lower case."""
         return [value for other, value in self.fields if other.lower() == name]
 
-    def members(self, name):
+    def members(self, name: bytes) -> set[bytes]:
         return {member.strip(b" \t").lower() for value in self.values(name) for member in value.split(b",")}
 
 
 class Input:
     """Bytes that are read one by one, up to a limit that is not to be passed."""
 
-    def __init__(self, stream):
+    def __init__(self, stream: bytes):
         self.stream = stream
         self.at = 0
-        self.limit, self.beyond = None, None
+        self.limit: int | None = None
+        self.beyond = Refused(400)
 
-    def bound(self, count, refusal):
+    def bound(self, count: int, refusal: Refused) -> None:
         """From here on no more than so many bytes may be read; where more are wanted, this is the refusal."""
         self.limit, self.beyond = self.at + count, refusal
 
-    def byte(self):
+    def byte(self) -> int:
         if self.at == self.limit:
             raise self.beyond
         if self.at == len(self.stream):
@@ -117,13 +138,13 @@ class Input:
         self.at += 1
         return self.stream[self.at - 1]
 
-    def back(self):
+    def back(self) -> None:
         self.at -= 1
 
-    def is_over(self):
+    def is_over(self) -> bool:
         return self.at == len(self.stream)
 
-    def take(self, count):
+    def take(self, count: int) -> bytes:
         self.limit = None
         if len(self.stream) - self.at < count:
             self.at = len(self.stream)
@@ -132,16 +153,16 @@ class Input:
         return self.stream[self.at - count : self.at]
 
 
-def line_ends(reader, byte):
+def line_ends(reader: Input, byte: int) -> bool:
     """Whether this byte, and the next where it is a CR, end a line. A CR alone can't be read."""
     if byte == 0x0D and reader.byte() != 0x0A:
         raise Refused(400)
     return byte in (0x0A, 0x0D)
 
 
-def read_fields(reader, too_many):
+def read_fields(reader: Input, too_many: Refused) -> list[Field]:
     """Field lines, to the empty line behind them."""
-    fields = []
+    fields: list[Field] = []
     while True:
         byte = reader.byte()
         if line_ends(reader, byte):
@@ -163,7 +184,7 @@ def read_fields(reader, too_many):
         fields.append((bytes(name), bytes(value).strip(b" \t")))
 
 
-def read_head(reader):
+def read_head(reader: Input) -> Head:
     """A head from its first byte on. The input may end before it."""
     reader.bound(MOST_HEAD_BYTES, Refused(431))
     while line_ends(reader, byte := reader.byte()):
@@ -191,7 +212,7 @@ def read_head(reader):
     return Head(bytes(method), bytes(target), minor - 0x30, read_fields(reader, Refused(431)))
 
 
-def length_of(head):
+def length_of(head: Head) -> tuple[int | None, bool]:
     """The length of a body, and whether it is chunked; neither is none."""
     codings, lengths = head.values(b"transfer-encoding"), head.values(b"content-length")
     if codings and (lengths or [coding.lower() for coding in codings] != [b"chunked"]):
@@ -201,7 +222,7 @@ def length_of(head):
     return int(lengths[0]) if lengths else None, bool(codings)
 
 
-def path_of(target):
+def path_of(target: bytes) -> bytes:
     path = target.partition(b"?")[0]
     if path.startswith(b"http://"):
         rest = path[len(b"http://") :]
@@ -209,32 +230,32 @@ def path_of(target):
     return path
 
 
-def routed(head):
-    """The route of a head that no check refuses with what its path names, and its framing."""
+def routed(head: Head) -> tuple[str, re.Match[bytes], int, bool]:
+    """The route of a head that no check refuses with what its path names, and its framing: the length of the body, or that it is chunked."""
     length, is_chunked = length_of(head)
-    found = [(route, route[0].fullmatch(path_of(head.target))) for route in ROUTES]
-    (_, name, method, content), match = next(((route, match) for route, match in found if match), ((None,) * 4, None))
+    found = [(route, route.paths.fullmatch(path_of(head.target))) for route in ROUTES]
+    route, match = next(((route, match) for route, match in found if match), (ROUTES[0], None))
     if match is None:
         raise Refused(404)
-    if head.method != method:
-        raise Refused(405, method)
-    if method == b"GET":
+    if head.method != route.method:
+        raise Refused(405, route.method)
+    if route.method == b"GET":
         if is_chunked or length not in (None, 0):
             raise Refused(400)
-        return name, match, 0, False
+        return route.name, match, 0, False
     if length is None and not is_chunked:
         raise Refused(411)
-    if not is_chunked and length > MOST_CONTENT_BYTES:
+    if length is not None and length > MOST_CONTENT_BYTES:
         raise Refused(413)
     kinds = head.values(b"content-type")
-    if not kinds or any(kind.partition(b";")[0].strip(b" ").lower() != content for kind in kinds):
+    if not kinds or any(kind.partition(b";")[0].strip(b" ").lower() != route.kind for kind in kinds):
         raise Refused(415)
     if any(coding.lower() != b"identity" for coding in head.values(b"content-encoding")):
         raise Refused(415)
-    return name, match, length, is_chunked
+    return route.name, match, length or 0, is_chunked
 
 
-def read_chunk_line(reader):
+def read_chunk_line(reader: Input) -> int:
     """The size that a chunk line tells."""
     reader.bound(MOST_CHUNK_LINE_BYTES, Refused(400))
     digits = bytearray()
@@ -252,7 +273,7 @@ def read_chunk_line(reader):
     return int(digits, 16)
 
 
-def read_chunks(reader):
+def read_chunks(reader: Input) -> bytes:
     """The content of a chunked body."""
     content = b""
     while size := read_chunk_line(reader):
@@ -275,11 +296,11 @@ class Answered:
     acted: int = 0
 
 
-def number_of(text):
+def number_of(text: bytes) -> int | None:
     return int(text) if NUMBER.fullmatch(text) and int(text) < 2**32 else None
 
 
-def act(queue, name, match, body, now):
+def act(queue: Shelf, name: str, match: re.Match[bytes], body: bytes, now: int) -> tuple[bytes, bytes, bool]:
     """The type and the content of an answer, and whether the request acted."""
     if name == MESSAGES:
         content = queue.answer(body, now)
@@ -292,13 +313,13 @@ def act(queue, name, match, body, now):
     if name == QUEUE:
         return b"text/plain", queue.text(), False
     number, place = number_of(match[1]), number_of(match[2])
-    found = None if None in (number, place) else queue.document(number, place)
+    found = None if number is None or place is None else queue.document(number, place)
     if found is None:
         raise Refused(404)
     return *found, False
 
 
-def talk(queue, stream, now):
+def talk(queue: Shelf, stream: bytes, now: int) -> Answered:
     """Ends the jobs that have expired, and answers all that comes in on a connection."""
     reader, answered = Input(stream), Answered()
     queue.expire(now)

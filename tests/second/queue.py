@@ -1,31 +1,16 @@
-"""The jobs and the accounts of a printer, and what it answers (docs/queue.md, docs/device.md, docs/accounts.md and "Replies" in
-docs/protocol.md)."""
+"""The jobs and the accounts of a printer, and what it answers (docs/dev/queue.md, docs/guide/device.md, docs/guide/accounts.md
+and "Replies" in docs/reference/ipp.md)."""
+from __future__ import annotations
+
+from collections.abc import Iterable, Mapping, Sequence
 from dataclasses import dataclass, replace
 from typing import Optional
 
-import ipp
-from ipp import (
-    CANCEL_JOB,
-    CANCEL_MY_JOBS,
-    CREATE_JOB,
-    GET_JOB_ATTRIBUTES,
-    GET_JOBS,
-    GET_PRINTER_ATTRIBUTES,
-    HOLD_JOB,
-    JOB_GROUP,
-    PRINT_JOB,
-    PRINTER_GROUP,
-    RELEASE_JOB,
-    SEND_DOCUMENT,
-    VALIDATE_JOB,
-    Job,
-    attribute,
-    reply,
-    unsupported,
-)
-from second.checks import OPERATIONS, Asked, Refused, asked, name_of, signed
-from second.device import KINDS, RefusedReport, is_taken, read_report
-from second.grants import RefusedFile, new_rows, read_row, records
+from ipp import VERSION_1_1, Operation, Tag, Value, attribute, record
+from messages import JOB_GROUP, PRINTER, PRINTER_GROUP, Job, reply, unsupported
+from second.checks import OPERATIONS, Asked, Listed, Refused, asked, name_of, signed
+from second.device import KINDS, RefusedReport, Report, is_taken, read_report
+from second.grants import Grants, RefusedFile, new_rows, read_row, records
 
 MOST_LIVE_JOBS = 100
 MOST_DOCUMENTS = 16
@@ -51,6 +36,8 @@ WAITING, RUNNING = (3, 4), (5, 6)
 class KeptJob(Job):
     """A job, with the marks that replies tell by its state and reasons alone."""
 
+    name: bytes = b""
+    owner: bytes = b""
     takes_documents: bool = False
     # the reason with which it is to end, once a cancel was asked while the device has it
     stopping: Optional[str] = None
@@ -61,7 +48,7 @@ class KeptJob(Job):
     def is_stopping(self) -> bool:
         return self.stopping is not None
 
-    def told(self):
+    def told(self) -> KeptJob:
         """The job with the state and the reasons that its marks make, as long as it is live."""
         if not self.is_live():
             return self
@@ -71,50 +58,50 @@ class KeptJob(Job):
         reasons = [INCOMING] * self.takes_documents + [HELD] * self.is_held
         return replace(self, state=4 if reasons else 3, reasons=tuple(reasons or ["none"]))
 
-    def ended_at(self, now, state, reason):
+    def ended_at(self, now: int, state: int, reason: str) -> KeptJob:
         return replace(self, state=state, reasons=(reason,), ended=now, is_held=False, takes_documents=False, stopping=None)
 
-    def estimate(self):
+    def estimate(self) -> int:
         return self.impressions * self.copies
 
-    def pages(self):
+    def pages(self) -> int:
         """The pages that are reserved for it or printed."""
         reserved = max(self.estimate() - self.completed, 0) if self.is_live() and not self.is_held else 0
         return reserved + self.completed
 
 
-def printer_rows(now, jobs):
+def printer_rows(now: int, jobs: Iterable[Job]) -> dict[str, bytes]:
     """All attributes of the printer by their names, in the order of the table."""
     formats = ["application/octet-stream", "application/pdf", "application/postscript"]
     formats += ["image/jpeg", "image/pwg-raster", "image/urf", "text/plain"]
     states = [job.state for job in jobs]
-    rows = [
-        (ipp.URI, "printer-uri-supported", ipp.PRINTER),
-        (ipp.KEYWORD, "uri-authentication-supported", "requesting-user-name"),
-        (ipp.KEYWORD, "uri-security-supported", "none"),
-        (ipp.NAME, "printer-name", "release"),
-        (ipp.ENUM, "printer-state", 4 if 5 in states else 5 if 6 in states else 3),
-        (ipp.KEYWORD, "printer-state-reasons", "none"),
-        (ipp.KEYWORD, "ipp-versions-supported", "1.1", "2.0"),
-        (ipp.ENUM, "operations-supported", *sorted(OPERATIONS)),
-        (ipp.CHARSET, "charset-configured", "utf-8"),
-        (ipp.CHARSET, "charset-supported", "utf-8"),
-        (ipp.LANGUAGE, "natural-language-configured", "en"),
-        (ipp.LANGUAGE, "generated-natural-language-supported", "en"),
-        (ipp.MEDIA_TYPE, "document-format-default", "application/octet-stream"),
-        (ipp.MEDIA_TYPE, "document-format-supported", *formats),
-        (ipp.BOOLEAN, "printer-is-accepting-jobs", True),
-        (ipp.INTEGER, "queued-job-count", len(states)),
-        (ipp.KEYWORD, "pdl-override-supported", "not-attempted"),
-        (ipp.INTEGER, "printer-up-time", now),
-        (ipp.KEYWORD, "compression-supported", "none"),
+    rows: list[tuple[Tag, str, Sequence[Value]]] = [
+        (Tag.URI, "printer-uri-supported", [PRINTER]),
+        (Tag.KEYWORD, "uri-authentication-supported", ["requesting-user-name"]),
+        (Tag.KEYWORD, "uri-security-supported", ["none"]),
+        (Tag.NAME, "printer-name", ["release"]),
+        (Tag.ENUM, "printer-state", [4 if 5 in states else 5 if 6 in states else 3]),
+        (Tag.KEYWORD, "printer-state-reasons", ["none"]),
+        (Tag.KEYWORD, "ipp-versions-supported", ["1.1", "2.0"]),
+        (Tag.ENUM, "operations-supported", [*sorted(OPERATIONS)]),
+        (Tag.CHARSET, "charset-configured", ["utf-8"]),
+        (Tag.CHARSET, "charset-supported", ["utf-8"]),
+        (Tag.LANGUAGE, "natural-language-configured", ["en"]),
+        (Tag.LANGUAGE, "generated-natural-language-supported", ["en"]),
+        (Tag.MEDIA_TYPE, "document-format-default", ["application/octet-stream"]),
+        (Tag.MEDIA_TYPE, "document-format-supported", [*formats]),
+        (Tag.BOOLEAN, "printer-is-accepting-jobs", [True]),
+        (Tag.INTEGER, "queued-job-count", [len(states)]),
+        (Tag.KEYWORD, "pdl-override-supported", ["not-attempted"]),
+        (Tag.INTEGER, "printer-up-time", [now]),
+        (Tag.KEYWORD, "compression-supported", ["none"]),
     ]
-    return {row[1]: attribute(*row) for row in rows}
+    return {name: attribute(tag, name, *values) for tag, name, values in rows}
 
 
-def selected(rows, names, groups):
+def selected(rows: Mapping[str, bytes], names: Iterable[bytes], groups: Mapping[bytes, Iterable[str]]) -> bytes:
     """The rows that names select, in the order of the table; a group's name selects its rows."""
-    chosen = set()
+    chosen: set[str] = set()
     for name in names:
         chosen.update(groups.get(name, [name.decode("latin-1")]))
     return b"".join(row for name, row in rows.items() if name in chosen)
@@ -127,12 +114,13 @@ class Queue:
         # a job that is held or open is kept for this time, and without end if it is 0
         self.seconds = seconds
         self.operators = operators
-        self.jobs = {}
-        self.granted = {}
-        self.free = {}
-        self.reports = {}
+        self.jobs: dict[int, KeptJob] = {}
+        self.granted: Grants = {}
+        self.free: dict[bytes, int] = {}
+        # by job and sequence number: a report, and its answer
+        self.reports: dict[tuple[int, int], tuple[Report, bytes]] = {}
 
-    def live(self, caller=None):
+    def live(self, caller: bytes | None = None) -> list[KeptJob]:
         return [job for job in self.jobs.values() if job.is_live() and caller in (None, job.owner)]
 
     def own(self, caller: bytes, number: int) -> KeptJob:
@@ -148,7 +136,7 @@ class Queue:
             raise Refused(0x0406)
         return job
 
-    def keep(self, job):
+    def keep(self, job: KeptJob) -> KeptJob:
         """Keeps a job as it is now. What it had reserved and printed, less what it has now, goes back to its owner's account."""
         before, job = self.jobs.get(job.number), job.told()
         if before is not None and job.owner in self.free:
@@ -158,14 +146,14 @@ class Queue:
 
     # ---- requests
 
-    def answer(self, octets, now):
+    def answer(self, octets: bytes, now: int) -> bytes | None:
         """The reply to a request by its bytes, and none under 8 of them."""
         if len(octets) < 8:
             return None
         version, code, request_id = octets[:2], octets[2:4], int.from_bytes(octets[4:8], "big")
         try:
             if version[0] not in (1, 2):
-                version = ipp.VERSION_1_1
+                version = VERSION_1_1
                 raise Refused(0x0503)
             if int.from_bytes(code, "big") not in OPERATIONS:
                 raise Refused(0x0501)
@@ -176,41 +164,41 @@ class Queue:
             answer = reply(refusal.code, listed(refusal.listed), version=version)
         return answer.spelled(request_id)
 
-    def act(self, request, now):
+    def act(self, request: Asked, now: int) -> list[bytes]:
         """Does what is asked, and gives the groups that the reply shows."""
         operation = request.operation
-        if operation in (PRINT_JOB, VALIDATE_JOB, CREATE_JOB):
+        if operation in (Operation.PRINT_JOB, Operation.VALIDATE_JOB, Operation.CREATE_JOB):
             return self.new_job(request, now)
-        if operation == CANCEL_MY_JOBS:
+        if operation == Operation.CANCEL_MY_JOBS:
             return self.cancel_jobs(request, now)
-        if operation == GET_JOBS:
+        if operation == Operation.GET_JOBS:
             return self.list_jobs(request, now)
-        if operation == GET_PRINTER_ATTRIBUTES:
+        if operation == Operation.GET_PRINTER_ATTRIBUTES:
             rows = printer_rows(now, self.live())
             groups = {b"all": rows, b"printer-description": rows}
             return [PRINTER_GROUP + selected(rows, [b"all"] if request.names is None else request.names, groups)]
-        if operation == GET_JOB_ATTRIBUTES:
+        if operation == Operation.GET_JOB_ATTRIBUTES:
             return [job_group(self.seen(request.caller, request.job), now, request.names, [b"all"])]
-        if operation == CANCEL_JOB:
+        if operation == Operation.CANCEL_JOB:
             self.cancel(request.caller, self.seen(request.caller, request.job), now)
             return []
         job = self.own(request.caller, request.job)
-        if operation == SEND_DOCUMENT:
+        if operation == Operation.SEND_DOCUMENT:
             return self.send_document(request, job)
-        if operation == HOLD_JOB:
+        if operation == Operation.HOLD_JOB:
             self.hold(job)
         else:
-            assert operation == RELEASE_JOB
+            assert operation == Operation.RELEASE_JOB
             self.release(job)
         return []
 
-    def new_job(self, request, now):
+    def new_job(self, request: Asked, now: int) -> list[bytes]:
         if len(self.live(request.caller)) >= MOST_LIVE_JOBS:
             raise Refused(0x0404)
-        if request.operation == VALIDATE_JOB:
+        if request.operation == Operation.VALIDATE_JOB:
             return []
-        names = [request.values.get(name) for name in (b"job-name", b"document-name")]
-        names = [name_of(*name) for name in names if name] + [b"untitled"]
+        told = [request.values.get(name) for name in (b"job-name", b"document-name")]
+        names = [*(name_of(*name) for name in told if name), b"untitled"]
         impressions = request.values.get(b"job-impressions", (None, request.job_values.get(b"job-impressions")))[1]
         job = KeptJob(
             number=len(self.jobs) + 1,
@@ -221,25 +209,25 @@ class Queue:
             copies=signed(request.job_values.get(b"copies", b"\x00\x00\x00\x01")),
             octets=0,
             documents=0,
-            takes_documents=request.operation == CREATE_JOB,
+            takes_documents=request.operation == Operation.CREATE_JOB,
         )
-        if request.operation == PRINT_JOB:
+        if request.operation == Operation.PRINT_JOB:
             job = with_document(job, request.payload)
         return [self.keep(job).new_group()]
 
-    def send_document(self, request, job):
+    def send_document(self, request: Asked, job: KeptJob) -> list[bytes]:
         if not job.takes_documents or (request.payload and job.documents == MOST_DOCUMENTS):
             raise Refused(0x0404)
         is_last = request.values[b"last-document"][1] == b"\x01"
         job = replace(with_document(job, request.payload), takes_documents=not is_last)
         return [self.keep(job).new_group()]
 
-    def hold(self, job):
+    def hold(self, job: KeptJob) -> None:
         if job.state not in WAITING:
             raise Refused(0x0404)
         self.keep(replace(job, is_held=True))
 
-    def release(self, job):
+    def release(self, job: KeptJob) -> None:
         if not job.is_live():
             raise Refused(0x0404)
         if not job.is_held:
@@ -257,7 +245,7 @@ class Queue:
         else:
             self.keep(job.ended_at(now, 7, reason))
 
-    def cancel_jobs(self, request, now):
+    def cancel_jobs(self, request: Asked, now: int) -> list[bytes]:
         if request.jobs is None:
             jobs = [job for job in self.live(request.caller) if can_be_canceled(job)]
         else:
@@ -274,7 +262,7 @@ class Queue:
         shown = [job for job in self.jobs.values() if shows_all or job.owner == request.caller]
         if request.values.get(b"which-jobs", (None, b""))[1] == b"completed":
             jobs = [job for job in shown if not job.is_live()]
-            jobs.sort(key=lambda job: (-job.ended, -job.number))
+            jobs.sort(key=lambda job: (-(job.ended or 0), -job.number))
         else:
             # those that the device has, those that it may start, those that wait
             ranks = {5: 0, 6: 0, 3: 1, 4: 2}
@@ -286,7 +274,7 @@ class Queue:
 
     # ---- the device, the office and sweeps
 
-    def report(self, text, now):
+    def report(self, text: bytes, now: int) -> bytes:
         """The answer to a line of the device, both without their line feeds."""
         try:
             report = read_report(text)
@@ -304,15 +292,15 @@ class Queue:
                 raise RefusedReport(b"refused 5 conflict")
             return answer
         except RefusedReport as refusal:
-            return refusal.args[0]
+            return refusal.answer
 
-    def grant(self, text):
+    def grant(self, text: bytes) -> bytes:
         """What comes of an account file with these rows under its header."""
         try:
             rows = [read_row(fields) for fields in records(text)]
             new = new_rows(rows, self.granted)
         except RefusedFile as refusal:
-            return b"refused %d" % refusal.args[0]
+            return b"refused %d" % refusal.code
         for (_, account), pages in new.items():
             self.free[account] = self.free.get(account, 0) + pages
         self.granted.update(new)
@@ -330,7 +318,7 @@ def can_be_canceled(job: KeptJob) -> bool:
     return job.is_live() and not job.is_stopping()
 
 
-def reported(job, report, now):
+def reported(job: KeptJob, report: Report, now: int) -> KeptJob:
     """What a report that is taken makes of its job."""
     job = replace(job, completed=max(job.completed, report.count))
     state = KINDS[report.kind][1]
@@ -342,24 +330,24 @@ def reported(job, report, now):
     return job.ended_at(now, state, reasons[state])
 
 
-def with_document(job, payload):
+def with_document(job: KeptJob, payload: bytes) -> KeptJob:
     return replace(job, octets=job.octets + len(payload), documents=job.documents + (1 if payload else 0))
 
 
-def job_group(job, now, names, usual):
+def job_group(job: KeptJob, now: int, names: Iterable[bytes] | None, usual: Iterable[bytes]) -> bytes:
     rows = job.attributes(now)
     template = ["copies", "job-hold-until"]
     groups = {b"all": rows, b"job-template": template, b"job-description": [name for name in rows if name not in template]}
     return JOB_GROUP + selected(rows, usual if names is None else names, groups)
 
 
-def listed(attributes):
+def listed(attributes: Iterable[Listed]) -> bytes:
     """The group of what is unsupported, where something is."""
     if not attributes:
         return b""
     return unsupported(
         *(
-            ipp.record(tag, b"" if place else name, octets)
+            record(tag, b"" if place else name, octets)
             for name, values in attributes
             for place, (tag, octets) in enumerate(values)
         )

@@ -1,4 +1,6 @@
-"""What answers the lines of a replay ("Lines of `replay`" in docs/protocol.md)."""
+"""What answers the lines of a replay ("Lines of `replay`" in docs/reference/ipp.md)."""
+from __future__ import annotations
+
 import re
 
 from second.queue import Queue
@@ -17,11 +19,11 @@ class BadLine(Exception):
 class Replay:
     """A queue, and the moment of its next request."""
 
-    def __init__(self):
+    def __init__(self) -> None:
         self.queue = Queue()
         self.now = 1
 
-    def answer(self, line):
+    def answer(self, line: bytes) -> bytes | None:
         """The line that answers a line, both without their line feeds, and none where nothing answers it."""
         now, message = NOW.fullmatch(line), MESSAGE.fullmatch(line)
         if now is not None and int(now[1]) <= LAST_MOMENT:
@@ -39,7 +41,7 @@ class Replay:
         raise BadLine
 
 
-def replay(text):
+def replay(text: bytes) -> tuple[bytes, int]:
     """The text that answers a text, and the exit status."""
     taken, answers = Replay(), b""
     lines = text.split(b"\n")

@@ -1,27 +1,37 @@
 """Random bytes for connections: requests by HTTP, good ones and crooked ones, with random messages and lines of the device in them."""
-import copy
+from __future__ import annotations
 
-from ipp import Message
+import copy
+from collections.abc import Sequence
+from random import Random
+from typing import Union
+
+from ipp import octets
+from messages import Draft
 from second.calls import Calls, Draws
-from second.http import MOST_HEAD_BYTES, MOST_REQUESTS, talk
+from second.http import MOST_HEAD_BYTES, MOST_REQUESTS, Shelf, talk
 from second.requests import Writer
 
+# A text, and the name and the value of a field line.
+Text = Union[str, bytes]
+Field = tuple[str, Text]
+
 MESSAGE, LINE = "application/ipp", "text/plain"
-OTHER_FIELDS = [
+OTHER_FIELDS: list[Field] = [
     ("Host", "localhost:631"), ("User-Agent", "bench"), ("Accept", "*/*"), ("X-Empty", ""), ("Connection", "keep-alive"), ("Connection", "Keep-Alive, upgrade"),
     ("X-Text", b"caf\xe9 \xc3\xa9"), ("Accept", "a\tb"), ("Expect", "200-ok"), ("Content-Encoding", "identity"), ("Content-Encoding", "Identity"),
 ]
-LAST_FIELDS = [("Connection", "close"), ("Connection", "keep-alive ,\tClose"), ("connection", ",close,")]
-EXPECTED = [("Expect", "100-continue"), ("Expect", "a, 100-Continue"), ("Expect", "100-continue;x")]
+LAST_FIELDS: list[Field] = [("Connection", "close"), ("Connection", "keep-alive ,\tClose"), ("connection", ",close,")]
+EXPECTED: list[Field] = [("Expect", "100-continue"), ("Expect", "a, 100-Continue"), ("Expect", "100-continue;x")]
 # fields that some check, or none, refuses
-CROOKED_FIELDS = [
+CROOKED_FIELDS: list[Field] = [
     ("Content-Length", "5"), ("Content-Length", "+5"), ("Content-Length", "-1"), ("Content-Length", ""), ("Content-Length", "5,5"),
     ("Content-Length", "0x5"), ("Content-Length", 21 * "0"), ("Content-Length", 20 * "0"), ("Content-Length", "16777217"), ("Content-Length", 20 * "9"),
     ("Transfer-Encoding", "chunked"), ("Transfer-Encoding", "Chunked"), ("Transfer-Encoding", "gzip"), ("Transfer-Encoding", "gzip, chunked"),
     ("Transfer-Encoding", "chunked;q=1"), ("Transfer-Encoding", ""), ("Content-Type", MESSAGE), ("Content-Type", LINE), ("Content-Type", "image/png"),
     ("Content-Type", ""), ("Content-Type", "application/ippx"), ("Content-Encoding", "gzip"), ("Content-Encoding", ""), ("Content-Encoding", "identity, gzip"),
 ]
-CROOKED_TARGETS = [
+CROOKED_TARGETS: list[Text] = [
     "/", "*", "/ipp/print/", "/ipp/print/x/y", "/ipp//print", "//ipp/print", "/IPP/print", "/ipp/print#a", "/ipp/%70rint", "/ipp/printx", "ipp/print",
     "http://localhost/ipp/print", "http://localhost:631/device/queue?x", "HTTP://localhost/ipp/print", "http://localhost", "http:///ipp/print", "https://localhost/ipp/print",
     "/device/queue/", "/device/queue?", "/device/queue?a/b", "/device/report?x", "/device/document/1", "/device/document/1/", "/device/document//1", "/device/document/1/1/1",
@@ -37,14 +47,14 @@ CHUNK_LINES = [b"", b"g", b"-1", b"+1", b"0x1", b" 1", b"1 1", b"111111111111111
 class Streams:
     """Makes the bytes of connections about a queue."""
 
-    def __init__(self, random, queue):
+    def __init__(self, random: Random, queue: Shelf):
         self.random = random
         self.queue = queue
 
-    def chance(self, probability):
+    def chance(self, probability: float) -> bool:
         return self.random.random() < probability
 
-    def stream(self, now):
+    def stream(self, now: int) -> bytes:
         """The bytes of a connection: requests, each of which is made for the queue behind those before it."""
         draft, stream = copy.deepcopy(self.queue), b""
         count = MOST_REQUESTS + 2 if self.chance(0.02) else self.random.choice([0, 1, 1, 2, 3, 5, 8])
@@ -56,7 +66,7 @@ class Streams:
             stream = self.changed(stream)
         return stream
 
-    def changed(self, stream):
+    def changed(self, stream: bytes) -> bytes:
         """The stream cut, or with bytes set, put in or taken out."""
         # most often in a head or in what frames a body
         places = [at for at, byte in enumerate(stream) if byte in b"\r\n :/"] if self.chance(0.5) else None
@@ -65,42 +75,42 @@ class Streams:
         choices = [stream[:at], stream[:at] + byte + stream[at + 1 :], stream[:at] + byte + stream[at:], stream[:at] + stream[at + 1 :]]
         return self.random.choice(choices)
 
-    def request(self, draft):
+    def request(self, draft: Shelf) -> bytes:
         """A request, and its body where it has one."""
         kinds = 9 * [self.message] + 4 * [self.report] + 2 * [self.device_queue] + 4 * [self.document] + [self.other]
         return self.random.choice(kinds)(draft)
 
-    def calls(self, draft):
+    def calls(self, draft: Shelf) -> Calls:
         return Calls(Draws(self.random.getrandbits(64)), draft)
 
-    def message(self, draft):
+    def message(self, draft: Shelf) -> bytes:
         target = self.random.choice(["/ipp/print", "/ipp/print", "/ipp/print/1", "/ipp/print?x/y", "http://localhost:631/ipp/print/any"])
         if self.chance(0.03):
             return self.posted(target, MESSAGE, self.random.randbytes(self.random.randrange(12)))
         if self.chance(0.25):
             return self.posted(target, MESSAGE, Writer(self.random, draft).request())
-        while not isinstance(call := self.calls(draft).call(), Message):
+        while not isinstance(call := self.calls(draft).call(), Draft):
             pass
         # a payload stands at the end, so this makes one longer
         more = self.random.randbytes(self.random.choice([4_095, 4_096, 65_537, 300_000])) if self.chance(0.03) else b""
         return self.posted(target, MESSAGE, call.spelled(self.random.getrandbits(32)) + more)
 
-    def report(self, draft):
+    def report(self, draft: Shelf) -> bytes:
         line = self.calls(draft).device()[len(b"dev ") :]
         end = self.random.choice(20 * [b"\n"] + [b"", b"\r\n", b"\n\n", b" \n"])
         return self.posted("/device/report", LINE, line + end)
 
-    def device_queue(self, draft):
+    def device_queue(self, draft: Shelf) -> bytes:
         return self.got("/device/queue")
 
-    def document(self, draft):
+    def document(self, draft: Shelf) -> bytes:
         held = [job for job in draft.jobs.values() if job.state in (3, 5, 6) and job.documents]
         if not held or self.chance(0.1):
             return self.got(f"/device/document/{self.random.randrange(len(draft.jobs) + 2)}/{self.random.randrange(3)}")
         job = self.random.choice(held)
         return self.got(f"/device/document/{job.number}/{self.random.randint(1, job.documents)}")
 
-    def other(self, draft):
+    def other(self, draft: Shelf) -> bytes:
         """A request of any method to any target."""
         target, method = self.random.choice(CROOKED_TARGETS), self.random.choice(METHODS[:2] + METHODS)
         fields = [("Content-Type", self.random.choice([MESSAGE, LINE])), ("Content-Length", "0")]
@@ -108,11 +118,11 @@ class Streams:
 
     # ---- the spelling of a request
 
-    def got(self, target):
+    def got(self, target: Text) -> bytes:
         fields = [("Content-Length", self.random.choice(["0", "00", "1"]))] if self.chance(0.1) else []
         return self.spelled("GET", target, fields, b"")
 
-    def posted(self, target, kind, body):
+    def posted(self, target: Text, kind: str, body: bytes) -> bytes:
         kind += self.random.choice(6 * [""] + ["; charset=utf-8", " ;x", ";"])
         fields = [("Content-Type", self.random.choice([kind, kind, kind.upper(), kind + " "]))]
         if self.chance(0.4):
@@ -125,8 +135,8 @@ class Streams:
             del fields[self.random.randrange(len(fields))]
         return self.spelled("POST", target, fields, body)
 
-    def spelled(self, method, target, fields, body):
-        fields = fields + self.random.sample(OTHER_FIELDS, self.random.randrange(4))
+    def spelled(self, method: str, target: Text, told: Sequence[Field], body: bytes) -> bytes:
+        fields = [*told, *self.random.sample(OTHER_FIELDS, self.random.randrange(4))]
         for some, probability in [(LAST_FIELDS, 0.05), (EXPECTED, 0.1), (CROOKED_FIELDS, 0.05)]:
             if self.chance(probability):
                 fields.append(self.random.choice(some))
@@ -142,15 +152,15 @@ class Streams:
         empty = self.random.choice(20 * [0] + [1, 2]) * [b""]
         return b"".join(line + self.line_end() for line in [*empty, *lines, b""]) + body
 
-    def field_line(self, field):
+    def field_line(self, field: Field) -> bytes:
         name, value = map(octets, field)
         name = self.random.choice([name, name, name.lower(), name.upper()])
         return name + b":" + self.random.choice([b" ", b" ", b"", b"\t ", b"  "]) + value + self.random.choice([b"", b"", b"", b" ", b"\t"])
 
-    def line_end(self):
+    def line_end(self) -> bytes:
         return self.random.choice(9 * [b"\r\n"] + [b"\n"])
 
-    def chunked(self, body):
+    def chunked(self, body: bytes) -> bytes:
         """A body in chunks."""
         stream = b""
         while body:
@@ -159,20 +169,16 @@ class Streams:
             body = body[size:]
         return stream + self.chunk_line(0) + self.trailers() + self.line_end()
 
-    def chunk_line(self, size):
+    def chunk_line(self, size: int) -> bytes:
         if self.chance(0.005):
             return self.random.choice(CHUNK_LINES) + b"\r\n"
         digits = self.random.choice([b"%x", b"%X", b"%04x", b"%016x"]) % size
         return digits + self.random.choice(6 * [b""] + [b" ", b" \t", b";", b" ;a=b", b"; \"\xff\""]) + (b"\r\n" if self.chance(0.998) else b"\n")
 
-    def trailers(self):
+    def trailers(self) -> bytes:
         if self.chance(0.9):
             return b""
         lines = [self.field_line(field) for field in self.random.choices(OTHER_FIELDS + CROOKED_FIELDS, k=self.random.choice([1, 2, 64, 65]))]
         if self.chance(0.2):
             lines.append(self.random.choice(LINES))
         return b"".join(line + self.line_end() for line in lines)
-
-
-def octets(text):
-    return text if isinstance(text, bytes) else text.encode()

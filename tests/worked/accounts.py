@@ -1,8 +1,13 @@
 """Account files of one row, the pages that they grant, and what releasing and holding jobs does with them."""
-from dataclasses import replace
+from __future__ import annotations
 
-from ipp import CANCEL_JOB, CREATE_JOB, HOLD_JOB, INTEGER, RELEASE_JOB, Job, job_request, record, request
-from worked.case import case, done, grant, print_job, refused, taken
+from collections.abc import Sequence
+from dataclasses import replace
+from typing import Optional
+
+from ipp import Operation, Tag, Value, record
+from messages import Draft, Job, job_request, request
+from worked.case import Step, case, done, grant, print_job, refused, taken
 from worked.documents import COUNTS, OPEN, created, send
 from worked.jobs import cancel_mine, look, seen
 
@@ -23,30 +28,30 @@ SHOWN = (
 )
 
 
-def is_seen(job, **others):
+def is_seen(job: Job, **others: str) -> Step:
     """The step that looks at a job."""
     return look(job.number, *SHOWN, **others), seen(job, *SHOWN)
 
 
-def release(number, caller="alice"):
-    return job_request(RELEASE_JOB, number, caller=caller)
+def release(number: int, caller: Optional[str] = "alice") -> Draft:
+    return job_request(Operation.RELEASE_JOB, number, caller=caller)
 
 
-def hold(number, caller="alice"):
-    return job_request(HOLD_JOB, number, caller=caller)
+def hold(number: int, caller: str = "alice") -> Draft:
+    return job_request(Operation.HOLD_JOB, number, caller=caller)
 
 
-def cancel(number, caller="alice"):
-    return job_request(CANCEL_JOB, number, caller=caller)
+def cancel(number: int, caller: Optional[str] = "alice") -> Draft:
+    return job_request(Operation.CANCEL_JOB, number, caller=caller)
 
 
-def print_pages(impressions, copies=1, caller="alice"):
+def print_pages(impressions: int, copies: int = 1, caller: Optional[str] = "alice") -> Draft:
     """A Print-Job of so many pages."""
-    rows = [record(INTEGER, "copies", copies)]
-    return print_job(record(INTEGER, "job-impressions", impressions), job=rows, caller=caller)
+    rows = [record(Tag.INTEGER, "copies", copies)]
+    return print_job(record(Tag.INTEGER, "job-impressions", impressions), job=rows, caller=caller)
 
 
-def are_free(pages, number, caller="alice"):
+def are_free(pages: int, number: int, caller: Optional[str] = "alice") -> list[Step]:
     """The steps that show how many pages are free: a new job of so many is released, and one of a page more is not.
 
     They end with the pages as they were. The new jobs have this number and the next.
@@ -61,7 +66,7 @@ def are_free(pages, number, caller="alice"):
     ]
 
 
-def has_no_account(number, caller="alice"):
+def has_no_account(number: int, caller: Optional[str] = "alice") -> list[Step]:
     """The steps that show that a caller has no account: a new job without pages is not released. It has this number."""
     return [(print_pages(0, caller=caller), taken(number)), (release(number, caller), refused(0x0404))]
 
@@ -95,7 +100,7 @@ case(
     *are_free(32, 3, "Alice"),
 )
 
-for name, rows in {
+OUT_OF_FORM: dict[str, Sequence[Value]] = {
     "too few or too many fields": [
         "f24,alice",
         "f24",
@@ -141,7 +146,8 @@ for name, rows in {
         + ["٣٠"]
     ],
     "fields out of form in front of pages out of range": ["f 24,alice,0", "f24,,1000001", "f24,alice,0,"],
-}.items():
+}
+for name, rows in OUT_OF_FORM.items():
     case(
         f"account file, {name}",
         *(grant(row, "refused 2") for row in rows),
@@ -191,7 +197,7 @@ case(
     *are_free(63, 1),
 )
 
-for name, caller, field in [
+CALLERS: list[tuple[str, Optional[str], str]] = [
     ("a comma", "Babbage, Charles", '"Babbage, Charles"'),
     ("doubled quotes", 'say "hi"', '"say ""hi"""'),
     ("a quote in the middle", 'al"ice', 'al"ice'),
@@ -203,7 +209,8 @@ for name, caller, field in [
     ("255 octets", 255 * "a", 255 * "a"),
     ("255 octets of letters of two", 126 * "ü" + "abc", 126 * "ü" + "abc"),
     ("no name", None, "anonymous"),
-]:
+]
+for name, caller, field in CALLERS:
     case(
         f"account of a caller with {name}",
         *has_no_account(1, caller),
@@ -248,7 +255,7 @@ case(
 MILLIONS = [f"b{number},alice,1000000" for number in range(1, 1001)]
 
 
-def all_released(first):
+def all_released(first: int) -> list[Step]:
     """The steps that release jobs of all pages that an account can have, and no further one. The first has this number."""
     pages = [(100_000, 999)] * 10 + [(100_000, 10)]
     last = first + len(pages)
@@ -405,7 +412,7 @@ case(
 case(
     "open job is released, and then its last document comes",
     grant("f24,alice,30"),
-    (request(CREATE_JOB), created(OPEN)),
+    (request(Operation.CREATE_JOB), created(OPEN)),
     (release(1), done()),
     is_seen(RELEASED_OPEN),
     *are_free(10, 2),
@@ -417,7 +424,7 @@ case(
 case(
     "open job is released and held",
     grant("f24,alice,30"),
-    (request(CREATE_JOB), created(OPEN)),
+    (request(Operation.CREATE_JOB), created(OPEN)),
     (release(1), done()),
     (release(1), done()),
     (hold(1), done()),
@@ -431,7 +438,7 @@ case(
 case(
     "open job is released and canceled",
     grant("f24,alice,30"),
-    (request(CREATE_JOB), created(OPEN)),
+    (request(Operation.CREATE_JOB), created(OPEN)),
     (release(1), done()),
     (cancel(1), done()),
     is_seen(CANCELED),
@@ -441,7 +448,7 @@ case(
 case(
     "sixteen documents of a released job",
     grant("f24,alice,30"),
-    (request(CREATE_JOB), created(OPEN)),
+    (request(Operation.CREATE_JOB), created(OPEN)),
     (send(False, b"a"), created(OPEN)),
     (release(1), done()),
     *((send(False, b"ab"), created(RELEASED_OPEN)) for _ in range(15)),

@@ -1,46 +1,40 @@
 """What an example is made of."""
+from __future__ import annotations
+
 import re
-from typing import Union
+from collections.abc import Sequence
+from typing import Optional, Union
 
-from ipp import (
-    BEGIN_COLLECTION,
-    END_COLLECTION,
-    INTEGER,
-    KEYWORD,
-    MEMBER_NAME,
-    PRINT_JOB,
-    Job,
-    Message,
-    octets,
-    record,
-    reply,
-    request,
-)
+from ipp import VERSION_1_1, Operation, Tag, Value, octets, record
+from messages import PRINTER, Draft, Job, reply, request
 
-CASES = []
+# of each example its name, the text that comes in, the text that answers it and the exit status
+CASES: list[tuple[str, bytes, bytes, int]] = []
 
 # the first exchange of an example has this request-id, and each further one the next
 FIRST_REQUEST_ID = 0x0A0B0C0D
 
 # a collection media-col with a media-size with an x-dimension of 21000
 MEDIA_COL = [
-    record(BEGIN_COLLECTION, "media-col", ""),
-    record(MEMBER_NAME, "", "media-size"),
-    record(BEGIN_COLLECTION, "", ""),
-    record(MEMBER_NAME, "", "x-dimension"),
-    record(INTEGER, "", 21000),
-    record(END_COLLECTION, "", ""),
-    record(END_COLLECTION, "", ""),
+    record(Tag.BEGIN_COLLECTION, "media-col", ""),
+    record(Tag.MEMBER_NAME, "", "media-size"),
+    record(Tag.BEGIN_COLLECTION, "", ""),
+    record(Tag.MEMBER_NAME, "", "x-dimension"),
+    record(Tag.INTEGER, "", 21000),
+    record(Tag.END_COLLECTION, "", ""),
+    record(Tag.END_COLLECTION, "", ""),
 ]
 
 # the answers that a server gives for want of memory, which no example wants
 FAULT = re.compile(rb"^(ipp .{4}0505|refused 6|grant refused 6|expire refused)", re.MULTILINE)
 
 # an exchange: a request and its reply, or a line and its answer
-Step = Union[tuple[Message, Message], tuple[bytes, bytes]]
+Exchange = tuple[Union[Draft, bytes], Union[Draft, bytes]]
+# a step of an example: an exchange, or a line that nothing answers
+Step = Union[Exchange, bytes]
 
 
-def replay(name, text, wanted, status=0):
+def replay(name: str, text: bytes, wanted: bytes, status: int = 0) -> None:
     """An example by its lines: the text that comes in, the text that answers it and the exit status."""
     assert name not in (case[0] for case in CASES), name
     assert not set("#=\n") & set(name) and not set(b"#=") & set(text), name
@@ -48,11 +42,11 @@ def replay(name, text, wanted, status=0):
     CASES.append((name, text, wanted, status))
 
 
-def line(message, request_id):
+def line(message: Draft, request_id: int) -> bytes:
     return b"ipp " + message.spelled(request_id).hex().encode() + b"\n"
 
 
-def case(name, *steps):
+def case(name: str, *steps: Step) -> None:
     """An example by its steps: exchanges (a request and its reply, or a line and its answer) and moments (`now`)."""
     text, wanted = b"", b""
     for place, step in enumerate(steps):
@@ -60,71 +54,74 @@ def case(name, *steps):
             text += step
             continue
         asked, answer = step
-        if isinstance(asked, bytes):
+        if isinstance(asked, bytes) and isinstance(answer, bytes):
             text, wanted = text + asked, wanted + answer
             continue
-        assert isinstance(asked, Message) and isinstance(answer, Message), name
+        assert isinstance(asked, Draft) and isinstance(answer, Draft), name
         text += line(asked, FIRST_REQUEST_ID + place)
         wanted += line(answer, FIRST_REQUEST_ID + place)
     replay(name, text, wanted)
 
 
-def now(moment):
+def now(moment: int) -> bytes:
     """The step that sets the moment."""
     return b"now %d\n" % moment
 
 
-def dev(text, answer):
+def dev(text: Value, answer: Value) -> Exchange:
     """The step of a line of the device, and what answers it."""
     return b"dev %s\n" % octets(text), octets(answer) + b"\n"
 
 
-def grant(row, answer="new 1 repeats 0"):
+def grant(row: Value, answer: Value = "new 1 repeats 0") -> Exchange:
     """The step of an account file of one row, and what comes of it."""
     return b"grant %s\n" % octets(row), b"grant %s\n" % octets(answer)
 
 
-def expire(count: int) -> tuple[bytes, bytes]:
+def expire(count: int) -> Exchange:
     """The step that ends the jobs that have expired: count of them."""
     return b"expire\n", b"expired %d\n" % count
 
 
-def sized(length, message):
+def sized(length: int, message: Draft) -> Draft:
     """The message, which has so many bytes."""
     assert len(message.spelled(1)) == length, (length, len(message.spelled(1)))
     return message
 
 
-def print_job(*attributes, **others):
+def print_job(
+    *attributes: bytes, caller: Optional[Value] = "alice", printer: Optional[Value] = PRINTER, job: Optional[Sequence[bytes]] = None,
+    payload: bytes = b"hi", version: bytes = VERSION_1_1,
+) -> Draft:
     """A Print-Job of the document `hi`; without more attributes it is the smallest."""
-    return request(PRINT_JOB, *attributes, **{"payload": b"hi", **others})
+    return request(Operation.PRINT_JOB, *attributes, caller=caller, printer=printer, job=job, payload=payload, version=version)
 
 
-def taken(number=1, *listed, **others):
+def taken(number: int = 1, *listed: bytes, version: bytes = VERSION_1_1) -> Draft:
     """The reply to a request that made a job, held in state 4."""
-    return reply(0x0001 if listed else 0x0000, *listed, Job(number).new_group(), **others)
+    return reply(0x0001 if listed else 0x0000, *listed, Job(number).new_group(), version=version)
 
 
-def refused(code, *listed, **others):
+def refused(code: int, *listed: bytes, version: bytes = VERSION_1_1) -> Draft:
     """The reply to a request that was refused."""
-    return reply(code, *listed, **others)
+    return reply(code, *listed, version=version)
 
 
-def done():
+def done() -> Draft:
     """The reply of a success that shows nothing."""
     return sized(72, reply(0x0000))
 
 
-def refuses(name, asked, code, **others):
+def refuses(name: str, asked: Draft, code: int, version: bytes = VERSION_1_1) -> None:
     """An example of a request that is refused and makes no job: the next Print-Job gets number 1."""
-    case(name, (asked, sized(72, refused(code, **others))), (print_job(), taken(1)))
+    case(name, (asked, sized(72, refused(code, version=version))), (print_job(), taken(1)))
 
 
-def takes(name, asked):
+def takes(name: str, asked: Draft) -> None:
     """An example of a request that makes job 1."""
     case(name, (asked, taken(1)))
 
 
-def wants(*names):
+def wants(*names: str) -> bytes:
     """The attribute requested-attributes of these names."""
-    return b"".join(record(KEYWORD, "" if place else "requested-attributes", name) for place, name in enumerate(names))
+    return b"".join(record(Tag.KEYWORD, "" if place else "requested-attributes", name) for place, name in enumerate(names))

@@ -1,7 +1,11 @@
 """Lines of the device: which are refused, and what becomes of a job and of its owner's pages by the others."""
+from __future__ import annotations
+
+from collections.abc import Sequence
 from dataclasses import replace
 
-from ipp import CREATE_JOB, ENUM, INTEGER, PRINTER_GROUP, record, reply, request, unsupported
+from ipp import Operation, Tag, Value, record
+from messages import PRINTER_GROUP, Job, reply, request, unsupported
 from worked.accounts import (
     CANCELED,
     HELD,
@@ -15,7 +19,7 @@ from worked.accounts import (
     print_pages,
     release,
 )
-from worked.case import case, dev, done, grant, now, print_job, refused, replay, taken
+from worked.case import Step, case, dev, done, grant, now, print_job, refused, replay, taken
 from worked.documents import OPEN, created, send
 from worked.jobs import HUNDRED, cancel_mine
 from worked.printer import ALL_JOBS, COMPLETED, ask_printer, jobs, limit, listed
@@ -38,7 +42,7 @@ RELEASES = [grant("f24,alice,30"), (print_job(), taken(1)), (release(1), done())
 RUNS = [*RELEASES, dev("1 1 start 0", "ok 1 5 0")]
 
 
-def are_owed(pages, number):
+def are_owed(pages: int, number: int) -> list[Step]:
     """The steps that show how many pages alice's account lacks: a job without pages is released once so many are granted.
 
     The new job has this number. Then no page is free.
@@ -55,7 +59,7 @@ def are_owed(pages, number):
     ]
 
 
-for name, lines in {
+NO_LINES: dict[str, Sequence[Value]] = {
     "leading zeros": ["01 1 start 0", "1 01 start 0", "1 1 start 00", "1 1 start 01", "00 1 start 0", "1 00 start 0"],
     "signs": ["+1 1 start 0", "-1 1 start 0", "1 +1 start 0", "1 -1 start 0", "1 1 start +0", "1 1 start -0"],
     "eleven digits": ["10000000000 1 start 0", "1 10000000000 start 0", "1 1 count 10000000000"],
@@ -89,7 +93,8 @@ for name, lines in {
     "bytes that are no text": [b"\xff\xfe", b"1 1 start 0\xff", b"\xff1 1 start 0", b"1 1 st\xffart 0"],
     "mark of the byte order": [b"\xef\xbb\xbf1 1 start 0"],
     "hundred thousand digits": [100_000 * "1"],
-}.items():
+}
+for name, lines in NO_LINES.items():
     case(
         f"device's line, {name}",
         (print_job(), taken(1)),
@@ -434,11 +439,11 @@ case(
 # by the state of job 1: the steps to it, the job then, and what it becomes by the kinds that are taken, at moment 5
 KINDS = ("start", "stop", "resume", "count", "done", "fail", "halt")
 ENDS = {"fail": replace(ABORTED, ended=5), "halt": replace(CANCELED_AT_DEVICE, ended=5)}
-for name, steps, job, becomes in [
+TAKEN_OF: list[tuple[str, Sequence[Step], Job, dict[str, Job]]] = [
     ("held", [(print_job(), taken(1))], HELD, {}),
     (
         "released and takes documents",
-        [grant("f24,alice,30"), (request(CREATE_JOB), created(OPEN)), (release(1), done())],
+        [grant("f24,alice,30"), (request(Operation.CREATE_JOB), created(OPEN)), (release(1), done())],
         RELEASED_OPEN,
         {},
     ),
@@ -464,7 +469,8 @@ for name, steps, job, becomes in [
     ),
     ("aborted", [*RUNS, dev("1 2 fail 0", "ok 1 8 0")], ABORTED, {"count": ABORTED}),
     ("done", [*RUNS, dev("1 2 done 0", "ok 1 9 0")], COMPLETE, {"count": COMPLETE}),
-]:
+]
+for name, steps, job, becomes in TAKEN_OF:
     case(
         f"kinds that are not taken of a job that is {name}",
         *steps,
@@ -564,7 +570,7 @@ case(
 case(
     "job without a document is printed",
     grant("f24,alice,30"),
-    (request(CREATE_JOB), created(OPEN)),
+    (request(Operation.CREATE_JOB), created(OPEN)),
     (release(1), done()),
     dev("1 1 start 0", STATE),
     (send(True, b""), created(RELEASED)),
@@ -663,9 +669,9 @@ case(
 )
 
 
-def printer_is(state, queued):
+def printer_is(state: int, queued: int) -> Step:
     """The step that shows the printer's state and how many jobs it has."""
-    rows = record(ENUM, "printer-state", state) + record(INTEGER, "queued-job-count", queued)
+    rows = record(Tag.ENUM, "printer-state", state) + record(Tag.INTEGER, "queued-job-count", queued)
     return ask_printer("printer-state", "queued-job-count"), reply(0x0000, PRINTER_GROUP + rows)
 
 

@@ -1,6 +1,8 @@
 """Five hundred calls in a row over one queue, drawn by a fixed rule: several callers, one of them an operator, the device, the office and
 sweeps, at moments that move."""
-from ipp import Message
+from typing import Union
+
+from messages import Draft
 from second.calls import ACCOUNTS, KINDS, Calls, Draws
 from second.checks import OPERATIONS
 from second.queue import BY_OPERATOR
@@ -13,12 +15,12 @@ with Play("five hundred calls in a row") as play:
     calls = Calls(draws, play.queue)
     play.grant("b1,alice,60")
     play.grant("b1,bob,200")
-    done: set = set()
+    done: set[Union[int, str]] = set()
     for _ in range(CALLS):
         if draws.chance(25):
             play.now(play.replay.now + 1 + draws.below(90))
         call = calls.call()
-        if isinstance(call, Message):
+        if isinstance(call, Draft):
             if play.ask(call) <= 0x0001:
                 done.add(call.code)
             continue

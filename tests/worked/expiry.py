@@ -1,18 +1,8 @@
 """Sweeps: `expire` ends the jobs that are held or open and were made 3,600 seconds ago or earlier."""
 from dataclasses import replace
 
-from ipp import (
-    CREATE_JOB,
-    GET_JOB_ATTRIBUTES,
-    GET_PRINTER_ATTRIBUTES,
-    INTEGER,
-    PRINTER_GROUP,
-    Job,
-    job_request,
-    record,
-    reply,
-    request,
-)
+from ipp import Operation, Tag, record
+from messages import PRINTER_GROUP, Job, job_request, reply, request
 from worked.accounts import (
     CANCELED,
     HELD,
@@ -31,22 +21,22 @@ from worked.documents import OPEN, created, send
 from worked.jobs import HUNDRED, cancel_mine
 from worked.played import Play
 from worked.printer import COMPLETED, jobs, listed
-from worked.states import SHOWN, STATES, bring, on_job
+from worked.states import LISTS, SHOWN, STATES, bring, on_job
 
 EXPIRED = replace(HELD, state=8, reasons=("aborted-by-system",), ended=3601, is_held=False)
 NO_DOCUMENT = replace(EXPIRED, octets=0, documents=0)
-ONE_QUEUED = PRINTER_GROUP + record(INTEGER, "queued-job-count", 1)
+ONE_QUEUED = PRINTER_GROUP + record(Tag.INTEGER, "queued-job-count", 1)
 
 
-def is_whole(job: Job, moment: int, **others: str) -> Step:
+def is_whole(job: Job, moment: int, caller: str = "alice") -> Step:
     """The step that looks at all of a job at a moment."""
-    return job_request(GET_JOB_ATTRIBUTES, job.number, **others), reply(0x0000, job.whole_group(now=moment))
+    return job_request(Operation.GET_JOB_ATTRIBUTES, job.number, caller=caller), reply(0x0000, job.whole_group(now=moment))
 
 
 case(
     "jobs that expire, one of them released and open",
     grant("f24,alice,30"),
-    (request(CREATE_JOB), created(OPEN)),
+    (request(Operation.CREATE_JOB), created(OPEN)),
     (release(1), done()),
     (print_job(), taken(2)),
     now(3600),
@@ -67,7 +57,7 @@ case(
 case(
     "pages that are set aside until a job expires",
     grant("f24,alice,30"),
-    (request(CREATE_JOB), created(OPEN)),
+    (request(Operation.CREATE_JOB), created(OPEN)),
     (release(1), done()),
     *are_free(10, 2),
     now(3600),
@@ -157,7 +147,7 @@ case(
 case(
     "what is asked of a job that has expired",
     grant("f24,alice,30"),
-    (request(CREATE_JOB), created(OPEN)),
+    (request(Operation.CREATE_JOB), created(OPEN)),
     now(3601),
     expire(1),
     (send(False, b"a"), refused(0x0404)),
@@ -177,7 +167,7 @@ case(
     "jobs of several owners expire together",
     grant("f24,alice,30"),
     grant("f24,bob,50"),
-    (request(CREATE_JOB), created(OPEN)),
+    (request(Operation.CREATE_JOB), created(OPEN)),
     (release(1), done()),
     (print_job(caller="bob"), taken(2)),
     (print_job(caller="carol"), taken(3)),
@@ -189,7 +179,7 @@ case(
     is_seen(replace(EXPIRED, number=2), caller="bob"),
     is_seen(replace(EXPIRED, number=3), caller="carol"),
     is_seen(replace(RELEASED, number=4), caller="bob"),
-    (request(GET_PRINTER_ATTRIBUTES, wants("queued-job-count")), reply(0x0000, ONE_QUEUED)),
+    (request(Operation.GET_PRINTER_ATTRIBUTES, wants("queued-job-count")), reply(0x0000, ONE_QUEUED)),
     *are_free(30, 5),
     *are_free(30, 7, "bob"),
     *has_no_account(9, "carol"),
@@ -215,7 +205,7 @@ with Play("jobs of each state, some of which expire") as play:
         play.look(number, *SHOWN)
         for message in on_job(number, "bob"):
             play.ask(message, 0x0406)
-    for which in ([], [COMPLETED]):
+    for which in LISTS:
         play.ask(jobs(*which, wants("job-id", "job-state", "job-state-reasons")), 0x0000)
     play.find_free()
     play.expire(0)

@@ -1,5 +1,6 @@
 """Lines that are no messages, lines of messages too short for a reply, and moments."""
-from ipp import CANCEL_JOB, GET_JOB_ATTRIBUTES, GET_PRINTER_ATTRIBUTES, INTEGER, PRINTER_GROUP, Job, job_request, record, reply, request
+from ipp import Operation, Tag, record
+from messages import PRINTER_GROUP, Job, job_request, reply, request
 from worked.case import case, done, now, print_job, replay, taken, wants
 
 replay("no line at all", b"", b"")
@@ -32,14 +33,14 @@ case(
     now(7),
     (print_job(), taken(2)),
     now(100),
-    (job_request(GET_JOB_ATTRIBUTES, 1), reply(0x0000, Job(1, created=1).whole_group(now=100))),
-    (job_request(GET_JOB_ATTRIBUTES, 2), reply(0x0000, Job(2, created=7).whole_group(now=100))),
+    (job_request(Operation.GET_JOB_ATTRIBUTES, 1), reply(0x0000, Job(1, created=1).whole_group(now=100))),
+    (job_request(Operation.GET_JOB_ATTRIBUTES, 2), reply(0x0000, Job(2, created=7).whole_group(now=100))),
     # a moment may lie before the last one
     now(40),
-    (job_request(CANCEL_JOB, 2), done()),
+    (job_request(Operation.CANCEL_JOB, 2), done()),
     now(2147483647),
     (
-        job_request(GET_JOB_ATTRIBUTES, 2, wants("time-at-completed", "time-at-creation", "job-printer-up-time")),
+        job_request(Operation.GET_JOB_ATTRIBUTES, 2, wants("time-at-completed", "time-at-creation", "job-printer-up-time")),
         reply(
             0x0000,
             Job(2, created=7, ended=40).group(
@@ -48,7 +49,7 @@ case(
         ),
     ),
     (
-        request(GET_PRINTER_ATTRIBUTES, wants("printer-up-time")),
-        reply(0x0000, PRINTER_GROUP + record(INTEGER, "printer-up-time", 2147483647)),
+        request(Operation.GET_PRINTER_ATTRIBUTES, wants("printer-up-time")),
+        reply(0x0000, PRINTER_GROUP + record(Tag.INTEGER, "printer-up-time", 2147483647)),
     ),
 )

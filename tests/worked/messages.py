@@ -1,5 +1,8 @@
 """The smallest Print-Job, its versions, and bytes that spell no message."""
-from ipp import BEGIN_COLLECTION, END_COLLECTION, GET_JOBS, KEYWORD, Job, Message, record, reply, request, unknown, unsupported
+from __future__ import annotations
+
+from ipp import Operation, Tag, record
+from messages import Draft, Job, reply, request, unknown, unsupported
 from worked.case import case, print_job, refused, refuses, replay, sized, taken
 
 # the bytes as the standard's encoding gives them, record by record
@@ -40,27 +43,27 @@ case(
     (print_job(version=b"\x02\x02"), taken(3, version=b"\x02\x02")),
 )
 
-refuses("head and a group without its end", Message(0x02, b"\x01"), 0x0400)
+refuses("head and a group without its end", Draft(0x02, b"\x01"), 0x0400)
 
 
-def edited(message, at, octets):
+def edited(message: Draft, at: int, octets: bytes) -> Draft:
     """The message with other bytes from an offset of the whole on."""
     at -= 8
-    return Message(message.code, message.body[:at] + octets + message.body[at + len(octets) :], message.version)
+    return Draft(message.code, message.body[:at] + octets + message.body[at + len(octets) :], message.version)
 
 
 refuses("value length over 0x7fff", edited(print_job(), 30, b"\x80\x00"), 0x0400)
 refuses("name length over 0x7fff", edited(print_job(), 10, b"\x80\x12"), 0x0400)
 refuses("delimiter zero", edited(print_job(), 8, b"\x00"), 0x0400)
 refuses("end in place of the first group", edited(print_job(), 8, b"\x03"), 0x0400)
-refuses("record before the first group", Message(0x02, record(KEYWORD, "a", "b") + print_job().body), 0x0400)
+refuses("record before the first group", Draft(0x02, record(Tag.KEYWORD, "a", "b") + print_job().body), 0x0400)
 
 # in front of the payload each cut is refused, and what is cut of the payload is no matter
 case(
     "smallest Print-Job cut at each length",
-    *((Message(0x02, print_job().body[: length - 8]), sized(72, refused(0x0400))) for length in range(8, 143)),
-    (Message(0x02, print_job().body[: 143 - 8]), taken(1)),
-    (Message(0x02, print_job().body[: 144 - 8]), taken(2)),
+    *((Draft(0x02, print_job().body[: length - 8]), sized(72, refused(0x0400))) for length in range(8, 143)),
+    (Draft(0x02, print_job().body[: 143 - 8]), taken(1)),
+    (Draft(0x02, print_job().body[: 144 - 8]), taken(2)),
 )
 replay(
     "cut within the head",
@@ -69,27 +72,27 @@ replay(
 )
 
 
-def nested(depth):
+def nested(depth: int) -> Draft:
     """A Print-Job whose job group has an attribute of so many collections, one in the other."""
-    values = [(BEGIN_COLLECTION, "a" if place == 0 else "", b"") for place in range(depth)]
-    values += [(END_COLLECTION, "", b"")] * depth
+    values = [(Tag.BEGIN_COLLECTION, "a" if place == 0 else "", b"") for place in range(depth)]
+    values += [(Tag.END_COLLECTION, "", b"")] * depth
     return print_job(job=[record(*value) for value in values])
 
 
 case("collections eight deep", (nested(8), sized(198, taken(1, unsupported(unknown("a"))))))
 refuses("collections nine deep", nested(9), 0x0400)
-refuses("collection without its end", print_job(job=[record(BEGIN_COLLECTION, "x", b"")]), 0x0400)
-refuses("end of no collection", print_job(job=[record(END_COLLECTION, "x", b"")]), 0x0400)
+refuses("collection without its end", print_job(job=[record(Tag.BEGIN_COLLECTION, "x", b"")]), 0x0400)
+refuses("end of no collection", print_job(job=[record(Tag.END_COLLECTION, "x", b"")]), 0x0400)
 
 # a second job group is not looked at, and of no other group is there anything to see
 case(
     "groups that do not count",
     (
-        Message(0x02, print_job(job=[]).body[:-3] + b"\x02" + record(KEYWORD, "media", "a4") + b"\x09" + b"\x03hi"),
+        Draft(0x02, print_job(job=[]).body[:-3] + b"\x02" + record(Tag.KEYWORD, "media", "a4") + b"\x09" + b"\x03hi"),
         taken(1),
     ),
     (
-        Message(0x0A, request(GET_JOBS).body[:-1] + b"\x01" + record(KEYWORD, "which-jobs", "all") + b"\x03"),
+        Draft(0x0A, request(Operation.GET_JOBS).body[:-1] + b"\x01" + record(Tag.KEYWORD, "which-jobs", "all") + b"\x03"),
         reply(0x0000, Job(1).listed_group()),
     ),
 )

@@ -1,5 +1,5 @@
 """The most pages, copies and counts that there may be, in each place where they stand."""
-from ipp import INTEGER, record
+from ipp import Tag, record
 from worked.played import Play
 from worked.states import KINDS, bring
 
@@ -21,7 +21,7 @@ with Play("most pages and last sequence number in each kind of report") as play:
 
 with Play("most copies of most pages") as play:
     play.grant("\r".join(f"f{row},alice,1000000" for row in range(99)), "new 99 repeats 0")
-    number = play.print_job(record(INTEGER, "job-impressions", 100_000), job=[record(INTEGER, "copies", 999)])
+    number = play.print_job(record(Tag.INTEGER, "job-impressions", 100_000), job=[record(Tag.INTEGER, "copies", 999)])
     play.release(number, code=0x0404)
     play.grant("near,alice,899999", "new 1 repeats 0")
     play.release(number, code=0x0404)

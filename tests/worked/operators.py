@@ -1,26 +1,8 @@
 """Operators, who see and cancel any job. That of a replay is opal."""
 from dataclasses import replace
 
-from ipp import (
-    BOOLEAN,
-    CREATE_JOB,
-    GET_JOB_ATTRIBUTES,
-    GET_JOBS,
-    GET_PRINTER_ATTRIBUTES,
-    INTEGER,
-    KEYWORD,
-    NAME,
-    NAME_WITH_LANGUAGE,
-    PRINTER,
-    URI,
-    Job,
-    Message,
-    job_request,
-    name_with_language,
-    record,
-    reply,
-    request,
-)
+from ipp import Operation, Tag, name_with_language, record
+from messages import PRINTER, Draft, Job, job_request, reply, request
 from worked.accounts import (
     CANCELED,
     HELD,
@@ -33,7 +15,7 @@ from worked.accounts import (
     print_pages,
     release,
 )
-from worked.case import case, dev, done, expire, grant, now, print_job, refused, sized, taken, wants
+from worked.case import Step, case, dev, done, expire, grant, now, print_job, refused, sized, taken, wants
 from worked.device import (
     ABORTED,
     CANCELED_AT_DEVICE,
@@ -50,22 +32,22 @@ from worked.documents import OPEN, created, send
 from worked.jobs import HUNDRED, cancel_mine, look, seen
 from worked.played import Play
 from worked.printer import COMPLETED, NOT_COMPLETED, jobs, limit, listed
-from worked.states import SHOWN, STATES, STOPPING, bring, on_job
+from worked.states import LISTS, SHOWN, STATES, STOPPING, bring, on_job
 
 OPAL = "opal"
-MINE, NOT_MINE = record(BOOLEAN, "my-jobs", True), record(BOOLEAN, "my-jobs", False)
+MINE, NOT_MINE = record(Tag.BOOLEAN, "my-jobs", True), record(Tag.BOOLEAN, "my-jobs", False)
 
 BY_OPERATOR = ("job-canceled-by-operator",)
 CANCELED_BY_OPERATOR = replace(CANCELED, reasons=BY_OPERATOR)
 HALTED_BY_OPERATOR = replace(CANCELED_BY_USER, reasons=BY_OPERATOR)
 
 
-def lists(*numbers: int, asked: tuple[bytes, ...] = (), caller: str = OPAL) -> tuple[Message, Message]:
+def lists(*numbers: int, asked: tuple[bytes, ...] = (), caller: str = OPAL) -> tuple[Draft, Draft]:
     """The step of a Get-Jobs that shows these jobs."""
     return jobs(*asked, caller=caller), listed(*numbers)
 
 
-def lists_none(*asked: bytes, caller: str = OPAL) -> tuple[Message, Message]:
+def lists_none(*asked: bytes, caller: str = OPAL) -> tuple[Draft, Draft]:
     """The step of a Get-Jobs that shows no job, and has nothing but the head of a success."""
     return jobs(*asked, caller=caller), sized(72, done())
 
@@ -80,7 +62,7 @@ case(
     (cancel(1, "bob"), sized(72, refused(0x0406))),
     (cancel(1, OPAL), done()),
     is_seen(CANCELED_BY_OPERATOR),
-    (job_request(GET_JOB_ATTRIBUTES, 1), reply(0x0000, CANCELED_BY_OPERATOR.whole_group())),
+    (job_request(Operation.GET_JOB_ATTRIBUTES, 1), reply(0x0000, CANCELED_BY_OPERATOR.whole_group())),
     (cancel(1), sized(72, refused(0x0404))),
     (cancel(1, OPAL), sized(72, refused(0x0404))),
     lists_none(),
@@ -245,7 +227,7 @@ case(
 )
 case(
     "what an operator does not do with another's job",
-    (request(CREATE_JOB), created(OPEN)),
+    (request(Operation.CREATE_JOB), created(OPEN)),
     (send(False, b"a", caller=OPAL), refused(0x0406)),
     (send(True, b"", caller=OPAL), refused(0x0406)),
     (hold(1, OPAL), refused(0x0406)),
@@ -275,7 +257,7 @@ case(
     "a job that an operator names by its URI",
     (print_job(), taken(1)),
     (
-        request(GET_JOB_ATTRIBUTES, record(URI, "job-uri", f"{PRINTER}/1"), printer=None, caller=OPAL),
+        request(Operation.GET_JOB_ATTRIBUTES, record(Tag.URI, "job-uri", f"{PRINTER}/1"), printer=None, caller=OPAL),
         reply(0x0000, HELD.whole_group()),
     ),
     (look(1, "job-id", "job-originating-user-name", caller=OPAL), seen(HELD, "job-id", "job-originating-user-name")),
@@ -296,19 +278,19 @@ for name in ["Opal", "OPAL", "opal ", " opal", "opa", "opals", "anonymous", ""]:
 case(
     "callers without a name are no operators",
     (print_job(), taken(1)),
-    (request(GET_JOBS, caller=None), done()),
-    (job_request(GET_JOB_ATTRIBUTES, 1, caller=None), refused(0x0406)),
+    (request(Operation.GET_JOBS, caller=None), done()),
+    (job_request(Operation.GET_JOB_ATTRIBUTES, 1, caller=None), refused(0x0406)),
 )
 case(
     "an operator whose name has a language",
     (print_job(), taken(1)),
     (
-        request(GET_JOBS, record(NAME_WITH_LANGUAGE, "requesting-user-name", name_with_language("en", OPAL)), caller=None),
+        request(Operation.GET_JOBS, record(Tag.NAME_WITH_LANGUAGE, "requesting-user-name", name_with_language("en", OPAL)), caller=None),
         listed(1),
     ),
     # the first of two names counts
-    (request(GET_JOBS, record(NAME, "requesting-user-name", "bob"), caller=OPAL), listed(1)),
-    (request(GET_JOBS, record(NAME, "requesting-user-name", OPAL), caller="bob"), done()),
+    (request(Operation.GET_JOBS, record(Tag.NAME, "requesting-user-name", "bob"), caller=OPAL), listed(1)),
+    (request(Operation.GET_JOBS, record(Tag.NAME, "requesting-user-name", OPAL), caller="bob"), done()),
 )
 
 # ---- lists
@@ -348,9 +330,9 @@ case(
             ),
         ),
     ),
-    (jobs(record(KEYWORD, "my-jobs", "true"), caller=OPAL), refused(0x0400)),
-    (jobs(record(BOOLEAN, "my-jobs", b"\x02"), caller=OPAL), refused(0x0400)),
-    (jobs(record(INTEGER, "my-jobs", 1), caller=OPAL), refused(0x0400)),
+    (jobs(record(Tag.KEYWORD, "my-jobs", "true"), caller=OPAL), refused(0x0400)),
+    (jobs(record(Tag.BOOLEAN, "my-jobs", b"\x02"), caller=OPAL), refused(0x0400)),
+    (jobs(record(Tag.INTEGER, "my-jobs", 1), caller=OPAL), refused(0x0400)),
     # the first of two counts
     lists(6, 8, 4, asked=(MINE, NOT_MINE)),
     lists(*ORDER, asked=(NOT_MINE, MINE)),
@@ -358,10 +340,13 @@ case(
 # they end at 30, 10, 30, 20, 30 and 10
 ENDS = [(2, 30), (9, 10), (8, 30), (3, 20), (1, 30), (4, 10)]
 ENDED = (8, 2, 1, 3, 9, 4)
+ENDING: list[Step] = []
+for number, moment in ENDS:
+    ENDING += [now(moment), (cancel(number, OPAL), done())]
 case(
     "an operator's list of completed jobs in their order",
     *NINE,
-    *(step for number, moment in ENDS for step in (now(moment), (cancel(number, OPAL), done()))),
+    *ENDING,
     lists(*ENDED, asked=(COMPLETED,)),
     lists(*ENDED, asked=(NOT_MINE, COMPLETED)),
     *(lists(*ENDED[:count], asked=(COMPLETED, limit(count))) for count in range(1, 8)),
@@ -437,6 +422,9 @@ case(
 
 # ---- each state
 
+# the attribute my-jobs, left out and by its values
+OWN: list[list[bytes]] = [[], [MINE], [NOT_MINE]]
+
 with Play("an operator and another's job in each state") as play:
     play.grant("f24,alice,1000")
     play.grant("f24,opal,1000")
@@ -449,8 +437,8 @@ with Play("an operator and another's job in each state") as play:
             play.ask(message, code)
         play.look(number, *SHOWN)
         play.look(number, *SHOWN, caller=OPAL)
-    for which in ([], [COMPLETED]):
-        for mine in ([], [MINE], [NOT_MINE]):
+    for which in LISTS:
+        for mine in OWN:
             play.ask(jobs(*which, *mine, wants("job-id", "job-state", "job-state-reasons"), caller=OPAL), 0x0000)
     play.find_free()
     play.find_free(OPAL)
@@ -465,10 +453,10 @@ with Play("lists of an operator over jobs of each state and several owners") as 
         play.print_job(caller=OPAL)
         play.cancel(play.last_job() - place % 2, caller=OPAL)
     play.now(200)
-    for which in ([], [COMPLETED]):
-        for mine in ([], [MINE], [NOT_MINE]):
+    for which in LISTS:
+        for mine in OWN:
             play.ask(jobs(*which, *mine, caller=OPAL), 0x0000)
             for count in (1, 5, 30):
                 play.ask(jobs(*which, *mine, limit(count), caller=OPAL), 0x0000)
     play.ask(jobs(wants("all"), limit(7), caller=OPAL), 0x0000)
-    play.ask(request(GET_PRINTER_ATTRIBUTES, wants("queued-job-count"), caller=OPAL), 0x0000)
+    play.ask(request(Operation.GET_PRINTER_ATTRIBUTES, wants("queued-job-count"), caller=OPAL), 0x0000)

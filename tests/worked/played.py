@@ -1,51 +1,59 @@
 """Examples whose answers come from the second queue (tests/second), which is written from the documents alone."""
+from __future__ import annotations
+
+from typing import Any
+
 import second.replay
-from ipp import CANCEL_JOB, CREATE_JOB, GET_JOB_ATTRIBUTES, HOLD_JOB, INTEGER, PRINT_JOB, RELEASE_JOB, job_request, octets, record, request
+from ipp import Operation, Tag, Value, octets, record
+from messages import Draft, job_request, request
+from second.queue import KeptJob
 from worked.case import FIRST_REQUEST_ID, line, replay, wants
 
 
 class Play:
     """An example that is answered line by line as it is made."""
 
-    def __init__(self, name):
+    def __init__(self, name: str):
         self.name = name
         self.replay = second.replay.Replay()
         self.queue = self.replay.queue
         self.text, self.wanted, self.exchanges = b"", b"", 0
 
-    def __enter__(self):
+    def __enter__(self) -> Play:
         return self
 
-    def __exit__(self, fault, *_):
+    def __exit__(self, fault: type[BaseException] | None, *_: object) -> None:
         if fault is None:
             replay(self.name, self.text, self.wanted)
 
-    def line(self, text):
+    def line(self, text: bytes) -> bytes:
         """Takes a line without its line feed, and gives the line that answers it."""
         answer = self.replay.answer(text)
+        assert answer is not None, (self.name, text)
         self.text += text + b"\n"
-        if answer is not None:
-            self.wanted += answer + b"\n"
+        self.wanted += answer + b"\n"
         return answer
 
-    def now(self, moment):
-        self.line(b"now %d" % moment)
+    def now(self, moment: int) -> None:
+        text = b"now %d" % moment
+        assert self.replay.answer(text) is None, (self.name, text)
+        self.text += text + b"\n"
 
-    def ask(self, message, code=None):
+    def ask(self, message: Draft, code: int | None = None) -> int:
         """Asks a request under a request-id of its own, and gives the code of its reply. Where a code is wanted, it is this."""
         answer = self.line(line(message, FIRST_REQUEST_ID + self.exchanges).strip())
         self.exchanges += 1
         came = int(answer[len("ipp 0101") : len("ipp 01010000")], 16)
-        assert code in (None, came), (self.name, self.exchanges, hex(code), hex(came))
+        assert code in (None, came), (self.name, self.exchanges, code, hex(came))
         return came
 
-    def dev(self, text, answer=None):
+    def dev(self, text: Value, answer: Value | None = None) -> bytes:
         """Takes a line of the device, and gives its answer. Where one is wanted, it begins with this."""
         came = self.line(b"dev " + octets(text))
         assert answer is None or came.startswith(octets(answer)), (self.name, text, came)
         return came
 
-    def grant(self, row, answer=None):
+    def grant(self, row: Value, answer: str | None = None) -> bytes:
         """Takes an account file of one row, and gives what comes of it."""
         came = self.line(b"grant " + octets(row))[len(b"grant ") :]
         assert answer in (None, came.decode()), (self.name, row, came)
@@ -58,54 +66,54 @@ class Play:
 
     # ---- what several examples do
 
-    def job(self, number):
-        return self.queue.jobs.get(number)
+    def job(self, number: int) -> KeptJob:
+        return self.queue.jobs[number]
 
-    def last_job(self):
+    def last_job(self) -> int:
         return len(self.queue.jobs)
 
-    def free(self, caller="alice"):
+    def free(self, caller: Value = "alice") -> int:
         """The pages of a caller that are free."""
         return self.queue.free[octets(caller)]
 
-    def print_job(self, *attributes, caller="alice", payload=b"hi", **others):
+    def print_job(self, *attributes: bytes, caller: Value = "alice", payload: bytes = b"hi", **others: Any) -> int:
         """Makes a job, and gives its number."""
-        self.ask(request(PRINT_JOB, *attributes, caller=caller, payload=payload, **others), 0x0000)
+        self.ask(request(Operation.PRINT_JOB, *attributes, caller=caller, payload=payload, **others), 0x0000)
         return self.last_job()
 
-    def create_job(self, *attributes, caller="alice", **others):
+    def create_job(self, *attributes: bytes, caller: Value = "alice", **others: Any) -> int:
         """Makes a job that takes documents, and gives its number."""
-        self.ask(request(CREATE_JOB, *attributes, caller=caller, **others), 0x0000)
+        self.ask(request(Operation.CREATE_JOB, *attributes, caller=caller, **others), 0x0000)
         return self.last_job()
 
-    def do(self, operation, number, *attributes, code=0x0000, **others):
+    def do(self, operation: Operation, number: int, *attributes: bytes, code: int | None = 0x0000, **others: Any) -> int:
         """Asks an operation on a job."""
         return self.ask(job_request(operation, number, *attributes, **others), code)
 
-    def release(self, number, **others):
-        return self.do(RELEASE_JOB, number, **others)
+    def release(self, number: int, **others: Any) -> int:
+        return self.do(Operation.RELEASE_JOB, number, **others)
 
-    def hold(self, number, **others):
-        return self.do(HOLD_JOB, number, **others)
+    def hold(self, number: int, **others: Any) -> int:
+        return self.do(Operation.HOLD_JOB, number, **others)
 
-    def cancel(self, number, **others):
-        return self.do(CANCEL_JOB, number, **others)
+    def cancel(self, number: int, **others: Any) -> int:
+        return self.do(Operation.CANCEL_JOB, number, **others)
 
-    def look(self, number, *names, **others):
+    def look(self, number: int, *names: str, **others: Any) -> int:
         """Looks at a job: at all of it, or at the attributes of these names."""
-        return self.do(GET_JOB_ATTRIBUTES, number, *([wants(*names)] if names else []), **others)
+        return self.do(Operation.GET_JOB_ATTRIBUTES, number, *([wants(*names)] if names else []), **others)
 
-    def report(self, number, kind, count=None):
+    def report(self, number: int, kind: str, count: int | None = None) -> bytes:
         """Takes a new report on a job, whose count does not rise where none is handed in, and gives the answer."""
         sequences = [sequence for job, sequence in self.queue.reports if job == number]
         if count is None:
             count = self.job(number).completed
         return self.dev(f"{number} {max(sequences, default=0) + 1} {kind} {count}")
 
-    def find_free(self, caller="alice"):
+    def find_free(self, caller: Value = "alice") -> None:
         """Shows how many pages are free: a job of a page more is not released, and one of so many is."""
         pages = self.free(caller)
-        rows = [record(INTEGER, "job-impressions", max(pages + more, 0)) for more in (1, 0)]
+        rows = [record(Tag.INTEGER, "job-impressions", max(pages + more, 0)) for more in (1, 0)]
         more, just = [self.print_job(row, caller=caller) for row in rows]
         self.release(more, caller=caller, code=0x0404)
         self.release(just, caller=caller, code=0x0000 if pages >= 0 else 0x0404)

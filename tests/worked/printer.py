@@ -1,55 +1,38 @@
 """Lists of jobs, and the printer's own attributes."""
-from ipp import (
-    BOOLEAN,
-    CANCEL_JOB,
-    CHARSET,
-    ENUM,
-    GET_JOBS,
-    GET_PRINTER_ATTRIBUTES,
-    INTEGER,
-    KEYWORD,
-    LANGUAGE,
-    MEDIA_TYPE,
-    NAME,
-    PRINTER,
-    PRINTER_GROUP,
-    URI,
-    Job,
-    attribute,
-    job_request,
-    record,
-    reply,
-    request,
-    unsupported,
-)
+from __future__ import annotations
+
+from collections.abc import Sequence
+
+from ipp import Operation, Tag, Value, attribute, record
+from messages import PRINTER, PRINTER_GROUP, Draft, Job, job_request, reply, request, unsupported
 from worked.case import case, done, now, print_job, refused, sized, taken, wants
 from worked.jobs import canceled
 
 
-def jobs(*attributes, caller="alice"):
-    return request(GET_JOBS, *attributes, caller=caller)
+def jobs(*attributes: bytes, caller: str = "alice") -> Draft:
+    return request(Operation.GET_JOBS, *attributes, caller=caller)
 
 
-def listed(*numbers):
+def listed(*numbers: int) -> Draft:
     """The reply to a Get-Jobs that shows these jobs."""
     return reply(0x0000, *(Job(number).listed_group() for number in numbers))
 
 
-COMPLETED = record(KEYWORD, "which-jobs", "completed")
-NOT_COMPLETED = record(KEYWORD, "which-jobs", "not-completed")
+COMPLETED = record(Tag.KEYWORD, "which-jobs", "completed")
+NOT_COMPLETED = record(Tag.KEYWORD, "which-jobs", "not-completed")
 
 
-def limit(count):
-    return record(INTEGER, "limit", count)
+def limit(count: int) -> bytes:
+    return record(Tag.INTEGER, "limit", count)
 
 
 case(
     "jobs of the caller alone",
     (print_job(), taken(1)),
     (jobs(caller="bob"), done()),
-    (jobs(record(BOOLEAN, "my-jobs", False), caller="bob"), done()),
+    (jobs(record(Tag.BOOLEAN, "my-jobs", False), caller="bob"), done()),
     (jobs(), listed(1)),
-    (jobs(record(BOOLEAN, "my-jobs", True)), listed(1)),
+    (jobs(record(Tag.BOOLEAN, "my-jobs", True)), listed(1)),
     (print_job(caller="bob"), taken(2)),
     (jobs(caller="bob"), listed(2)),
 )
@@ -62,7 +45,7 @@ case(
 case(
     "jobs that wait, by number",
     *((print_job(), taken(number)) for number in range(1, 6)),
-    (job_request(CANCEL_JOB, 2), done()),
+    (job_request(Operation.CANCEL_JOB, 2), done()),
     (jobs(), listed(1, 3, 4, 5)),
     (jobs(NOT_COMPLETED), listed(1, 3, 4, 5)),
     (jobs(limit(2)), listed(1, 3)),
@@ -74,14 +57,14 @@ case(
     "completed jobs from the one that ended last",
     *((print_job(), taken(number)) for number in range(1, 7)),
     now(30),
-    (job_request(CANCEL_JOB, 6), done()),
-    (job_request(CANCEL_JOB, 1), done()),
+    (job_request(Operation.CANCEL_JOB, 6), done()),
+    (job_request(Operation.CANCEL_JOB, 1), done()),
     now(10),
-    (job_request(CANCEL_JOB, 2), done()),
+    (job_request(Operation.CANCEL_JOB, 2), done()),
     now(30),
-    (job_request(CANCEL_JOB, 3), done()),
+    (job_request(Operation.CANCEL_JOB, 3), done()),
     now(20),
-    (job_request(CANCEL_JOB, 5), done()),
+    (job_request(Operation.CANCEL_JOB, 5), done()),
     (jobs(COMPLETED), listed(6, 3, 1, 5, 2)),
     (jobs(COMPLETED, limit(3)), listed(6, 3, 1)),
     (jobs(COMPLETED, limit(4)), listed(6, 3, 1, 5)),
@@ -98,7 +81,7 @@ case(
     (jobs(), listed(4)),
     (jobs(COMPLETED, caller="bob"), done()),
 )
-ALL_JOBS = record(KEYWORD, "which-jobs", "all")
+ALL_JOBS = record(Tag.KEYWORD, "which-jobs", "all")
 case(
     "which jobs that are not supported",
     (jobs(ALL_JOBS), refused(0x040B, unsupported(ALL_JOBS))),
@@ -111,39 +94,39 @@ case(
 )
 
 
-def printer_attributes(now=1, queued=0):
+def printer_attributes(now: int = 1, queued: int = 0) -> dict[str, bytes]:
     """All attributes of the printer by their names, in the order of the table."""
     formats = ["application/octet-stream", "application/pdf", "application/postscript"]
     formats += ["image/jpeg", "image/pwg-raster", "image/urf", "text/plain"]
-    rows = [
-        (URI, "printer-uri-supported", PRINTER),
-        (KEYWORD, "uri-authentication-supported", "requesting-user-name"),
-        (KEYWORD, "uri-security-supported", "none"),
-        (NAME, "printer-name", "release"),
-        (ENUM, "printer-state", 3),
-        (KEYWORD, "printer-state-reasons", "none"),
-        (KEYWORD, "ipp-versions-supported", "1.1", "2.0"),
-        (ENUM, "operations-supported", 0x02, 0x04, 0x05, 0x06, 0x08, 0x09, 0x0A, 0x0B, 0x0C, 0x0D, 0x39),
-        (CHARSET, "charset-configured", "utf-8"),
-        (CHARSET, "charset-supported", "utf-8"),
-        (LANGUAGE, "natural-language-configured", "en"),
-        (LANGUAGE, "generated-natural-language-supported", "en"),
-        (MEDIA_TYPE, "document-format-default", "application/octet-stream"),
-        (MEDIA_TYPE, "document-format-supported", *formats),
-        (BOOLEAN, "printer-is-accepting-jobs", True),
-        (INTEGER, "queued-job-count", queued),
-        (KEYWORD, "pdl-override-supported", "not-attempted"),
-        (INTEGER, "printer-up-time", now),
-        (KEYWORD, "compression-supported", "none"),
+    rows: list[tuple[Tag, str, Sequence[Value]]] = [
+        (Tag.URI, "printer-uri-supported", [PRINTER]),
+        (Tag.KEYWORD, "uri-authentication-supported", ["requesting-user-name"]),
+        (Tag.KEYWORD, "uri-security-supported", ["none"]),
+        (Tag.NAME, "printer-name", ["release"]),
+        (Tag.ENUM, "printer-state", [3]),
+        (Tag.KEYWORD, "printer-state-reasons", ["none"]),
+        (Tag.KEYWORD, "ipp-versions-supported", ["1.1", "2.0"]),
+        (Tag.ENUM, "operations-supported", [0x02, 0x04, 0x05, 0x06, 0x08, 0x09, 0x0A, 0x0B, 0x0C, 0x0D, 0x39]),
+        (Tag.CHARSET, "charset-configured", ["utf-8"]),
+        (Tag.CHARSET, "charset-supported", ["utf-8"]),
+        (Tag.LANGUAGE, "natural-language-configured", ["en"]),
+        (Tag.LANGUAGE, "generated-natural-language-supported", ["en"]),
+        (Tag.MEDIA_TYPE, "document-format-default", ["application/octet-stream"]),
+        (Tag.MEDIA_TYPE, "document-format-supported", [*formats]),
+        (Tag.BOOLEAN, "printer-is-accepting-jobs", [True]),
+        (Tag.INTEGER, "queued-job-count", [queued]),
+        (Tag.KEYWORD, "pdl-override-supported", ["not-attempted"]),
+        (Tag.INTEGER, "printer-up-time", [now]),
+        (Tag.KEYWORD, "compression-supported", ["none"]),
     ]
-    return {row[1]: attribute(*row) for row in rows}
+    return {name: attribute(tag, name, *values) for tag, name, values in rows}
 
 
-def ask_printer(*names):
-    return request(GET_PRINTER_ATTRIBUTES, wants(*names))
+def ask_printer(*names: str) -> Draft:
+    return request(Operation.GET_PRINTER_ATTRIBUTES, wants(*names))
 
 
-def shown(*names, **others):
+def shown(*names: str, **others: int) -> Draft:
     """The reply that shows these attributes of the printer."""
     rows = printer_attributes(**others)
     return reply(0x0000, PRINTER_GROUP + b"".join(rows[name] for name in rows if name in names))
@@ -155,7 +138,7 @@ for name in EVERY:
     case(f"{name} alone", (ask_printer(name), shown(name)))
 case(
     "printer as a whole",
-    (request(GET_PRINTER_ATTRIBUTES), shown(*EVERY)),
+    (request(Operation.GET_PRINTER_ATTRIBUTES), shown(*EVERY)),
     (ask_printer("all"), shown(*EVERY)),
     (ask_printer("printer-description"), shown(*EVERY)),
     (ask_printer("printer-up-time", "printer-name", "printer-up-time"), shown("printer-name", "printer-up-time")),
@@ -166,19 +149,19 @@ case(
     (print_job(), taken(1)),
     (print_job(caller="bob"), taken(2)),
     (print_job(), taken(3)),
-    (job_request(CANCEL_JOB, 3), done()),
+    (job_request(Operation.CANCEL_JOB, 3), done()),
     now(77),
-    (request(GET_PRINTER_ATTRIBUTES, caller="carol"), shown(*EVERY, now=77, queued=2)),
+    (request(Operation.GET_PRINTER_ATTRIBUTES, caller="carol"), shown(*EVERY, now=77, queued=2)),
 )
 case(
     "printer asked for a document format",
     (
         request(
-            GET_PRINTER_ATTRIBUTES,
-            record(MEDIA_TYPE, "document-format", "image/jpeg"),
+            Operation.GET_PRINTER_ATTRIBUTES,
+            record(Tag.MEDIA_TYPE, "document-format", "image/jpeg"),
             wants("pdl-override-supported"),
         ),
         shown("pdl-override-supported"),
     ),
-    (request(GET_PRINTER_ATTRIBUTES, record(MEDIA_TYPE, "document-format", "image/png")), refused(0x040A)),
+    (request(Operation.GET_PRINTER_ATTRIBUTES, record(Tag.MEDIA_TYPE, "document-format", "image/png")), refused(0x040A)),
 )

@@ -1,26 +1,12 @@
 """Jobs in each state with each reason: each operation and each report on them, another's job, and no job."""
-import functools
+from __future__ import annotations
 
-from ipp import (
-    BOOLEAN,
-    CANCEL_JOB,
-    CANCEL_MY_JOBS,
-    CREATE_JOB,
-    GET_JOB_ATTRIBUTES,
-    GET_JOBS,
-    GET_PRINTER_ATTRIBUTES,
-    HOLD_JOB,
-    INTEGER,
-    KEYWORD,
-    PRINT_JOB,
-    RELEASE_JOB,
-    SEND_DOCUMENT,
-    VALIDATE_JOB,
-    attribute,
-    job_request,
-    record,
-    request,
-)
+import functools
+from collections.abc import Callable
+from typing import Any
+
+from ipp import Operation, Tag, attribute, record
+from messages import Draft, job_request, request
 from worked.case import wants
 from worked.played import Play
 
@@ -47,7 +33,9 @@ STATES = {
     "completed": (["print", "release", "start", "done"], 9, ("job-completed-successfully",)),
 }
 KINDS = ("start", "stop", "resume", "count", "done", "fail", "halt")
-COMPLETED = record(KEYWORD, "which-jobs", "completed")
+COMPLETED = record(Tag.KEYWORD, "which-jobs", "completed")
+# the attributes of the two lists of jobs
+LISTS: list[list[bytes]] = [[], [COMPLETED]]
 SHOWN = (
     "job-state",
     "job-state-reasons",
@@ -67,40 +55,42 @@ def bring(play: Play, name: str) -> int:
         if step in KINDS:
             assert play.report(number, step).startswith(b"ok"), name
         else:
-            cancel_by_operator = functools.partial(play.cancel, caller="opal")
-            {"release": play.release, "cancel": play.cancel, "operator": cancel_by_operator}[step](number)
+            asks: dict[str, Callable[[int], int]] = {
+                "release": play.release, "cancel": play.cancel, "operator": functools.partial(play.cancel, caller="opal")
+            }
+            asks[step](number)
     job = play.job(number)
     assert (job.state, job.reasons) == (state, reasons), (name, job)
     return number
 
 
-def send(number, is_last, payload, **others):
-    return job_request(SEND_DOCUMENT, number, record(BOOLEAN, "last-document", is_last), payload=payload, **others)
+def send(number: int, is_last: bool, payload: bytes, **others: Any) -> Draft:
+    return job_request(Operation.SEND_DOCUMENT, number, record(Tag.BOOLEAN, "last-document", is_last), payload=payload, **others)
 
 
-def on_job(number, caller="alice"):
+def on_job(number: int, caller: str = "alice") -> list[Draft]:
     """Each operation on one job."""
     return [
         send(number, False, b"a", caller=caller),
         send(number, True, b"", caller=caller),
-        job_request(HOLD_JOB, number, caller=caller),
-        job_request(RELEASE_JOB, number, caller=caller),
-        job_request(CANCEL_JOB, number, caller=caller),
-        request(CANCEL_MY_JOBS, record(INTEGER, "job-ids", number), caller=caller),
-        job_request(GET_JOB_ATTRIBUTES, number, wants("job-state"), caller=caller),
+        job_request(Operation.HOLD_JOB, number, caller=caller),
+        job_request(Operation.RELEASE_JOB, number, caller=caller),
+        job_request(Operation.CANCEL_JOB, number, caller=caller),
+        request(Operation.CANCEL_MY_JOBS, record(Tag.INTEGER, "job-ids", number), caller=caller),
+        job_request(Operation.GET_JOB_ATTRIBUTES, number, wants("job-state"), caller=caller),
     ]
 
 
-def beside_job():
+def beside_job() -> list[Draft]:
     """Each operation that is about no one job, on alice's jobs."""
     return [
-        request(PRINT_JOB, payload=b"hi"),
-        request(VALIDATE_JOB),
-        request(CREATE_JOB),
-        request(GET_JOBS, wants("job-id", "job-state", "job-state-reasons")),
-        request(GET_JOBS, COMPLETED, wants("job-id", "job-state", "job-state-reasons")),
-        request(GET_PRINTER_ATTRIBUTES, wants("printer-state", "queued-job-count")),
-        request(CANCEL_MY_JOBS),
+        request(Operation.PRINT_JOB, payload=b"hi"),
+        request(Operation.VALIDATE_JOB),
+        request(Operation.CREATE_JOB),
+        request(Operation.GET_JOBS, wants("job-id", "job-state", "job-state-reasons")),
+        request(Operation.GET_JOBS, COMPLETED, wants("job-id", "job-state", "job-state-reasons")),
+        request(Operation.GET_PRINTER_ATTRIBUTES, wants("printer-state", "queued-job-count")),
+        request(Operation.CANCEL_MY_JOBS),
     ]
 
 
@@ -159,10 +149,10 @@ with Play("another's job in each state, and no job") as play:
     for message in on_job(NO_JOB):
         play.ask(message, 0x0406)
     # of several numbers one that is not the caller's
-    play.ask(request(CANCEL_MY_JOBS, attribute(INTEGER, "job-ids", numbers[0], NO_JOB)), 0x0406)
-    for which in ([], [COMPLETED]):
-        play.ask(request(GET_JOBS, *which, caller="bob"), 0x0000)
-        play.ask(request(GET_JOBS, *which), 0x0000)
+    play.ask(request(Operation.CANCEL_MY_JOBS, attribute(Tag.INTEGER, "job-ids", numbers[0], NO_JOB)), 0x0406)
+    for which in LISTS:
+        play.ask(request(Operation.GET_JOBS, *which, caller="bob"), 0x0000)
+        play.ask(request(Operation.GET_JOBS, *which), 0x0000)
     for kind in KINDS:
         play.dev(f"{NO_JOB} 1 {kind} 0", "refused 2 no-job")
         play.dev(f"2147483647 2147483647 {kind} 100000000", "refused 2 no-job")
@@ -173,14 +163,14 @@ with Play("lists of jobs in each state") as play:
         play.now(100 - place // 2)
         bring(play, name)
     play.now(200)
-    for which in ([], [COMPLETED]):
-        play.ask(request(GET_JOBS, *which, wants("all")), 0x0000)
-        play.ask(request(GET_JOBS, *which, wants("job-id", "job-state", "job-state-reasons")), 0x0000)
+    for which in LISTS:
+        play.ask(request(Operation.GET_JOBS, *which, wants("all")), 0x0000)
+        play.ask(request(Operation.GET_JOBS, *which, wants("job-id", "job-state", "job-state-reasons")), 0x0000)
         for limit in (1, 3, 2_147_483_647):
-            play.ask(request(GET_JOBS, *which, record(INTEGER, "limit", limit)), 0x0000)
-    play.ask(request(GET_PRINTER_ATTRIBUTES), 0x0000)
+            play.ask(request(Operation.GET_JOBS, *which, record(Tag.INTEGER, "limit", limit)), 0x0000)
+    play.ask(request(Operation.GET_PRINTER_ATTRIBUTES), 0x0000)
     # all that can be canceled, and then none
     for _ in range(2):
-        play.ask(request(CANCEL_MY_JOBS), 0x0000)
-        play.ask(request(GET_JOBS, wants("job-id", "job-state", "job-state-reasons")), 0x0000)
+        play.ask(request(Operation.CANCEL_MY_JOBS), 0x0000)
+        play.ask(request(Operation.GET_JOBS, wants("job-id", "job-state", "job-state-reasons")), 0x0000)
     play.find_free()
