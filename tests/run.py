@@ -1,5 +1,5 @@
 #!/usr/bin/env python3
-"""All tests: the gate of the crates, `rt ci`, then the tests of the programs around the server (tests/gateway).
+"""All tests: the gate of the crates, `rt ci`, then the tests of the programs around the server (tests/gateway) and of the documents.
 
 The last line counts both: `N passed, M failed`. The status is 0 only if nothing failed. If the gate fails, the other tests don't run, since
 they need the program that it builds. --without-gate runs only them: ./printd builds the program first if need be, and PRINTD=FILE names
@@ -15,9 +15,10 @@ import unittest
 from pathlib import Path
 
 TOP = Path(__file__).resolve().parents[1]
-TESTS = TOP / "tests" / "gateway"
-sys.path.insert(0, str(TESTS))
+GATEWAY = TOP / "tests" / "gateway"
+sys.path.insert(0, str(GATEWAY))
 sys.dont_write_bytecode = True
+import check_docs  # noqa: E402
 from counted import run_counted  # noqa: E402
 
 COUNTED = re.compile(r"(\d+) passed, (\d+) failed\n")
@@ -49,7 +50,9 @@ def main() -> int:
     if failed:
         print("the tests after the gate were not run")
     else:
-        more_passed, failed = run_counted(unittest.defaultTestLoader.discover(str(TESTS)))
+        loader = unittest.defaultTestLoader
+        suite = unittest.TestSuite([loader.loadTestsFromModule(check_docs), loader.discover(str(GATEWAY))])
+        more_passed, failed = run_counted(suite)
         passed += more_passed
     print(f"{passed} passed, {failed} failed", flush=True)
     return 1 if failed else 0
