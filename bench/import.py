@@ -3,9 +3,10 @@
 
 Each file is imported into an empty book, and then into a book that has as many grants already, to the same accounts under
 another batch. It prints figures and judges nothing. Run it as `bench/import.py [ROWS ..]` at the top of the repository; other
-numbers of rows may be given. It builds a small program, whose text stands below, in a repository of its own in a temporary folder,
-over copies of the crates that it stands on; what `./printd` and `rt check` in crates/list_book have proved is not proved again.
-With both proved this takes a minute or so.
+numbers of rows may be given.
+
+It builds a small program, whose text is below, in a repository of its own in a temporary folder, over copies of the crates that the
+program needs. `./printd` and `rt check` in crates/list_book prove these crates; then building it takes a minute or so.
 """
 from __future__ import annotations
 
@@ -71,7 +72,7 @@ fn run<R: AllocGlobal + Env + Files + Print>(rt: &R) -> Result<(), anyhow::Error
 
 
 def write_file(path: str, batch: str, rows: int) -> None:
-    """An account file of one row for each of so many accounts, each of one page."""
+    """An account file with a row for each of its accounts, each of one page."""
     with open(path, "w") as file:
         file.write("batch,account,pages\n")
         file.writelines(f"{batch},u{row},1\n" for row in range(rows))
@@ -93,7 +94,7 @@ def run(program: str, rows: int, *files: str) -> tuple[float, float]:
 
 
 def measure(program: str, folder: str, rows: int) -> None:
-    """Prints what the import of a file of so many rows took, into an empty book and into one with as many grants."""
+    """Prints what the import of a file took, into an empty book and into one with as many grants as it has rows."""
     files = [os.path.join(folder, name) for name in ("first", "second")]
     for batch, path in zip("ab", files):
         write_file(path, batch, rows)

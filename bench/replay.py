@@ -49,7 +49,7 @@ def large_print_job(number: int, caller: bytes) -> bytes:
 
 
 def get_jobs(number: int, caller: bytes, limit: int) -> bytes:
-    """A Get-Jobs of at most so many jobs."""
+    """A Get-Jobs with a limit."""
     return request(Operation.GET_JOBS, record(Tag.INTEGER, "limit", limit), caller=caller).spelled(number)
 
 
@@ -120,7 +120,7 @@ def measure(title: str, requests: Iterable[bytes], bytes_of_documents: int) -> N
 
 
 def measure_get_jobs(others: int) -> None:
-    """Prints what 1,000 Get-Jobs take beside jobs of others: a run with them, less one without them."""
+    """Prints what 1,000 Get-Jobs take in a queue that has jobs of others too: a run with them, less one without them."""
 
     def jobs() -> Iterator[bytes]:
         for n in range(others):
@@ -142,15 +142,15 @@ def measure_get_jobs(others: int) -> None:
 
 
 def jobs_that_end(count: int) -> Iterator[bytes]:
-    """The lines by which so many jobs of 200 callers are printed and canceled."""
+    """The lines by which jobs of 200 callers are printed and canceled."""
     for n in range(count):
         caller = b"caller%d" % (n % 200)
         yield asked(print_job(1, caller, b"hi"))
         yield asked(job_request(Operation.CANCEL_JOB, n + 1, caller=caller).spelled(1))
 
 
-def requests_behind(ended: int) -> Iterator[bytes]:
-    """1,000 Print-Jobs of 10 callers behind so many jobs, then as many Get-Job-Attributes and Cancel-Jobs for them."""
+def requests_after(ended: int) -> Iterator[bytes]:
+    """1,000 Print-Jobs of 10 callers after jobs that ended, then as many Get-Job-Attributes and Cancel-Jobs for them."""
     owners = [b"owner%d" % (n % 10) for n in range(1000)]
     for owner in owners:
         yield asked(print_job(1, owner, b"hi"))
@@ -173,10 +173,10 @@ def reports_of(number: int) -> Iterator[bytes]:
         yield b"dev %d %d count %d" % (number, n + 2, n + 1)
 
 
-def measure_behind(ended: int) -> None:
-    """Prints how many requests and reports a second are answered behind so many jobs that ended."""
+def measure_after(ended: int) -> None:
+    """Prints how many requests and reports a second are answered after jobs that ended."""
     number = ended + 1001
-    seconds, memory = run_parts(jobs_that_end(ended), requests_behind(ended), begun_job(number), reports_of(number))
+    seconds, memory = run_parts(jobs_that_end(ended), requests_after(ended), begun_job(number), reports_of(number))
     print(
         f"behind {ended:,} jobs that ended: {3000 / seconds[1]:,.0f} requests/s (Print-Job, Get-Job-Attributes, Cancel-Job), "
         f"{10_000 / seconds[3]:,.0f} reports/s, peak memory {memory:,.0f} MiB"
@@ -207,7 +207,7 @@ def main() -> None:
     for others in (0, 20000):
         measure_get_jobs(others)
     for ended in (1_000, 100_000):
-        measure_behind(ended)
+        measure_after(ended)
 
 
 if __name__ == "__main__":

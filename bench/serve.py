@@ -2,13 +2,13 @@
 """Measures a print server over HTTP: requests a second, the speed of documents in and out, and its memory at its peak, also for a
 request that is full of empty groups, and one that is full of attributes that it doesn't know.
 
-It makes a store of its own, serves it by `printd serve`, and prints figures; it judges nothing. The requests go over one kept
-connection after another, 32 on each, one at a time: so a figure is what one client gets, and the time of this script is in it. Run it as
+It makes a store of its own, serves it by `printd serve`, and prints figures; it judges nothing. It sends one request at a time, over one kept
+connection after another, with 32 requests on each. So a figure is what one client gets, and it includes the time of this script. Run it as
 `bench/serve.py` at the top of the repository; the program has to be built (`./printd --help` does that).
 
-With --port it measures a server that already runs, and --pid tells whose memory is looked at. Never take one whose store is in use, or
-that a device asks: each job stays in its store for good, canceled, and so do the bytes of the large documents. The account `bench-0` needs
-free pages there for these, each as many as the printer's estimate.
+With --port it measures a server that runs already, and --pid names the process whose memory is measured. Never take a server whose store is
+in use, or one that a device asks: each job stays in its store for good, canceled, and so do the bytes of the large documents. The account
+`bench-0` needs free pages there for these, for each as many as the printer's estimate.
 """
 from __future__ import annotations
 
@@ -121,7 +121,7 @@ def peak_memory(pid: int) -> float:
 
 
 def measured(name: str, count: int, step: Callable[[int], object]) -> None:
-    """Takes so many steps and prints how many a second there were."""
+    """Takes a number of steps and prints how many a second there were."""
     begin = time.perf_counter()
     for number in range(count):
         step(number)
@@ -130,7 +130,7 @@ def measured(name: str, count: int, step: Callable[[int], object]) -> None:
 
 
 def moved(name: str, size: int, times: int, step: Callable[[int], object]) -> None:
-    """Moves so many bytes so many times and prints the speed."""
+    """Moves bytes again and again and prints the speed."""
     begin = time.perf_counter()
     for number in range(times):
         step(number)

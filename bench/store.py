@@ -1,23 +1,23 @@
 #!/usr/bin/env python3
-"""Measures the store: requests a second, documents in and out, the time to open it and memory, beside 100 and 100,000 ended jobs; and sweeps.
+"""Measures the store: requests a second, documents in and out, the time to open it, and memory, with 100 and 100,000 ended jobs in it; and sweeps.
 
-No socket is in these figures: a program, whose text stands below, opens the store as the server does and answers files of requests one after another.
-For each file it tells how long the answers took, all together and the longest. A file is answered by a process of its own, so a peak of memory is what
-opening the store and this kind of request took. It prints figures and judges nothing.
+No socket is in these figures. A program, whose text is below, opens the store as the server does and answers files of requests one after another.
+For each file it prints how long the answers took, all together and the longest. Each file is answered by a process of its own, so a peak of
+memory is what opening the store and this kind of request took. It prints figures and judges nothing.
 
-The ended jobs are rows that Python's sqlite3 writes into a new store of the program's: each has one document, of so many bytes as --document says, a start, and
-a done or (every second job) a halt after a cancel. One owner has 10 of them and one has half. They stand for a sound queue, and the program checks each row as it opens the store. That takes memory for
-the bytes of all documents: so see that JOBS times BYTES fits.
+Python's sqlite3 writes the ended jobs into a new store of the program's. Each has one document, with as many bytes as --document says, a start, and
+a done or (every second job) a halt after a cancel. One owner has 10 of them and one has half. They are a sound queue, and the program checks each row
+as it opens the store. That takes memory for the bytes of all documents, so see that JOBS times BYTES fits.
 
-A sweep that ends nothing is measured beside the jobs that wait. Then 1,000 and 100,000 jobs that are held or open, of owners with 100 each, expire at
-once in stores of their own (--held says other numbers): the time, the memory, and the length of the log after it.
+A sweep that ends nothing is measured while jobs wait. Then 1,000 and 100,000 jobs that are held or open, of owners with 100 each, expire at
+once in stores of their own (--held takes other numbers): the time, the memory, and the length of the log after it.
 
-In the end an operator's lists are measured beside 100,000 ended jobs of 1,000 owners (--shown says other numbers): the first ten jobs, completed and not,
+Then an operator's lists are measured with 100,000 ended jobs of 1,000 owners (--shown takes other numbers): the first ten jobs, completed and not,
 and all of them, with the memory that one such list takes.
 
-Run it as `bench/store.py [JOBS ..]` at the top of the repository; other numbers of ended jobs may be given. It builds the program in a repository of its own in a
-temporary folder, over copies of the crates that stand there proved (`./printd replay </dev/null` does that); this takes some minutes. With --program it
-takes one that is built already.
+Run it as `bench/store.py [JOBS ..]` at the top of the repository; other numbers of ended jobs may be given. It builds the program in a repository of
+its own in a temporary folder, over copies of the crates that are proved there (`./printd replay </dev/null` proves them); this takes some
+minutes. With --program it takes one that is built already.
 """
 from __future__ import annotations
 
@@ -402,7 +402,7 @@ def live_jobs(first: int, callers: list[str], count: int) -> list[tuple[int, str
 
 
 def measure(program: str, folder: str, ended: int, octets: int, count: int, times: int) -> None:
-    """Prints the figures of a store with so many ended jobs, each with a document of so many bytes, in a folder of its own."""
+    """Prints the figures of a store with ended jobs, each with a document, in a folder of its own."""
     run = Run(program, folder, ended)
     run.call("new", run.store)
     callers = callers_of(count)
@@ -453,7 +453,7 @@ def measure_sweep(program: str, folder: str, held: int, octets: int) -> None:
 
 
 def measure_lists(program: str, folder: str, ended: int, octets: int, count: int) -> None:
-    """Prints the figures of an operator's lists beside ended jobs of a thousand owners, in a folder of its own."""
+    """Prints the figures of an operator's lists with ended jobs of a thousand owners, in a folder of its own."""
     run = Run(program, folder, ended)
     run.call("new", run.store)
     set_operator(run.store)
@@ -494,7 +494,7 @@ def main() -> None:
     words.add_argument("--requests", type=int, default=3000, metavar="N", help="how many of each kind (default: %(default)s)")
     words.add_argument("--documents", type=int, default=10, metavar="N", help="how many large documents, at most 100 (default: %(default)s)")
     words.add_argument("--document", type=int, default=200, metavar="BYTES", help="how long the document of an ended job is (default: %(default)s)")
-    words.add_argument("--program", metavar="PATH", help="the program that stands below, built already")
+    words.add_argument("--program", metavar="PATH", help="the program whose text is below, built already")
     words.add_argument("--folder", metavar="FOLDER", help="where the stores are made for the time of the run (default: the system's)")
     chosen = words.parse_args()
     if min(chosen.jobs) < 20 or chosen.requests < 1 or not 1 <= chosen.documents <= LIVE_JOBS:

@@ -1,9 +1,9 @@
 #!/usr/bin/env python3
 """Makes the worked examples of crates/replay_cases from the documents alone (tests/worked), never from the program.
 
-Most are spelled by hand; of those that reach every corner the answers come from a second queue that is written from the documents
-alone (tests/second). `tests/cases.py` sees that the second queue answers the others as they are spelled, compares the files stdin
-and stdout of that crate with the examples, and ends with status 1 where anything differs; `tests/cases.py write` writes them. The
+Most are spelled by hand. Of those that reach every corner the answers come from a second queue that is written from the documents
+alone (tests/second). `tests/cases.py` checks that the second queue answers the others as they are spelled, compares the files stdin
+and stdout of that crate with the examples, and ends with status 1 if anything differs. `tests/cases.py write` writes the files. The
 gate runs the crate's program over stdin; docs/dev/tests.md says how an example that fails is shown.
 """
 from __future__ import annotations

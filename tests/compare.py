@@ -1,12 +1,11 @@
 #!/usr/bin/env python3
 """Compares `printd replay` with a second print queue, written from the protocol's documents alone (tests/second).
 
-It makes random requests of several callers, one of them an operator, many of them crooked: wrong tags, numbers of values and forms, cut and flipped
-bytes, second groups, names that come again, other versions, operations and request-ids, collections. Among them stand requests
-that fit the jobs as they are, lines of the device, account files and sweeps. It answers all by the second queue, runs the program over
-them, and compares the answers byte for byte. Run it as `tests/compare.py [RUNS [FIRST]]`
-at the top of the repository; the program has to be built (`./printd replay </dev/null` does that). It ends with status 1 at
-the first answer that differs, and prints the request and both answers.
+It makes random requests of several callers, one of them an operator. Many are crooked: wrong tags, numbers of values and forms, cut and flipped
+bytes, second groups, names that come again, other versions, operations and request-ids, collections. Others fit the jobs of the queue, and
+there are lines of the device, account files and sweeps. The second queue answers all of them, the program runs over them, and the answers are
+compared byte for byte. Run it as `tests/compare.py [RUNS [FIRST]]` at the top of the repository; the program has to be built
+(`./printd replay </dev/null` does that). It ends with status 1 at the first answer that differs, and prints the request and both answers.
 """
 from __future__ import annotations
 
@@ -30,7 +29,7 @@ CALLS_PER_RUN = 400
 
 
 def kind_of(answer: bytes) -> str:
-    """What is counted of an answer: the status code of a reply, or the words of another."""
+    """The kind by which an answer is counted: the status code of a reply, or the words of another answer."""
     words = answer.decode().split()
     if words[0] == "ipp":
         return words[1] if words[1] == "short" else words[1][4:8]

@@ -1,11 +1,12 @@
 #!/usr/bin/env python3
 """Compares `printd serve` with a second server, written from the documents alone (tests/second), over real connections.
 
-It makes a store, imports account files, and serves random connections: good and crooked requests by HTTP, one behind the other, with chunks, odd
-spellings of heads, random messages and lines of the device in them, cut and flipped bytes; each is sent in pieces of random lengths. The second server answers the
-same bytes, and the answers are compared byte for byte; so are the counts that the program prints of its connections, what it prints of account files,
-of sweeps and of operators, and at the end the statement of each account and the moments of all jobs. Between the rounds of a run the server ends, and is
-started again on its store, often with other operators. Some stores keep a held job only for a few seconds: then it expires before the next connection is served.
+It makes a store, imports account files, and serves random connections. They have good and crooked requests by HTTP one after another, with chunks, odd
+spellings of heads, random messages and lines of the device in them, cut and flipped bytes; each is sent in pieces of random lengths. The second server
+answers the same bytes, and the answers are compared byte for byte. So are the counts that the program prints of its connections, what it prints of
+account files, of sweeps and of operators, and at the end the statement of each account and the moments of all jobs. Between the rounds of a run the
+server ends, and is started again on its store, often with other operators. Some stores keep a held job only for a few seconds, so it expires before
+the next connection is served.
 
 Run it as `tests/connections.py [RUNS [FIRST]]` at the top of the repository; the program has to be built (`./printd --help` does that). It ends with
 status 1 at the first thing that differs, and shows it.
@@ -116,8 +117,8 @@ def send(client: socket.socket, cut: list[tuple[float, bytes]]) -> None:
 
 
 class Run:
-    """One store of the program, beside the queue of the second server. Where an answer doesn't tell in which of two seconds its connection was
-    taken there are two such queues, until a later answer tells them apart."""
+    """One store of the program, and the queue of the second server. If an answer doesn't show in which of two seconds its connection was
+    taken, there are two such queues until a later answer shows which it was."""
 
     def __init__(self, seed: int, folder: str, kinds: collections.Counter[str]):
         self.seed, self.kinds = seed, kinds
@@ -166,7 +167,7 @@ class Run:
             queue.operators = frozenset(map(str.encode, names))
 
     def come(self, what: str, begin: int, came: bytes, act: Callable[[Shelf, int], Answered]) -> int:
-        """Keeps the queues that answer this at a second since then, as they are after it; and the number of requests that acted."""
+        """Keeps the queues that answer this at a second since then, as they are after it. It returns the number of requests that acted."""
         before = self.queues
         queues: list[Shelf] = []
         for second in range(begin, int(time.time()) + 1):

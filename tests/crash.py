@@ -1,18 +1,18 @@
 #!/usr/bin/env python3
-"""Stops a print server after each change of its store's files, and looks at what the store then holds.
+"""Stops a print server after each change of its store's files, and checks what the store then holds.
 
-A store is made, gets an account file and an operator, is served while clients print, release and cancel, the operator cancels and a device reports,
-gets another account file and other operators, and ends its jobs that have expired; then the tables are made those of each earlier release, and a command
-takes them to those of today: all of it under strace, which takes down each change of the files. From that come the files that a failure after each change
-may leave:
+A store is made, gets an account file and an operator, and is served: clients print, release and cancel, the operator cancels, and a device reports. It
+gets another account file and other operators, and its expired jobs end. Then the tables are made those of each earlier release, and a command
+takes them to those of today. All of it runs under strace, which records each change of the files. From that come the files that a failure after each
+change may leave:
 
-- where the program was killed, all that it had written;
-- where the machine stopped, of what was written to a file since it was last synced each write, or nothing, or some of its blocks of 512 bytes
+- if the program was killed, everything that it had written;
+- if the machine stopped, of what was written to a file since it was last synced each write, or nothing, or some of its blocks of 512 bytes
   and any bytes in place of others; and a file that was made or removed since then, or not (by chance, as often as --images says).
 
 The program opens each of these stores as one does after a failure; one whose making was cut short is made again. Then SQLite itself reads the
 tables. They have to hold the queue after just the requests that were answered by then, or after the one under way too. Every tenth store
-also takes the first account file once more. What holds anything else is left in a folder for a look, and the status is 1.
+also takes the first account file once more. A store that holds anything else is left in a folder for a look, and the status is 1.
 
 A store with the tables of an earlier release is also opened under a limit on the bytes of a file, for each limit that is too low: the program answers
 `printd: disk`, and without the limit it opens the store to the same queue.
@@ -49,7 +49,7 @@ from served import PROGRAM, Served  # noqa: E402
 STORE = "queue.db"
 FIRST_PAGES = "batch,account,pages\nf24,alice,100\nf24,bob,40\n"
 MORE_PAGES = "batch,account,pages\ns25,alice,7\ns25,carol,9\n"
-# What strace takes down: all calls by which a file is changed, and answers.
+# The calls that strace records: all by which a file is changed, and answers.
 CALLS = (
     "open,openat,creat,write,writev,pwrite64,pwritev,pwritev2,truncate,ftruncate,fallocate,fsync,fdatasync,sync_file_range,"
     "unlink,unlinkat,rename,renameat,renameat2,link,linkat,copy_file_range,sendfile,mmap,sendto,sendmsg"
@@ -57,12 +57,12 @@ CALLS = (
 CALL = re.compile(r"(\w+)\((.*)\) += (\d+)")
 QUOTED = re.compile(r'"([^"]*)"')
 OF_A_FILE = re.compile(r"\d<([^>]*)>")
-# A disk writes blocks of so many bytes. One at which it was stopped may hold anything.
+# The bytes of a block of a disk. A block at which the disk was stopped may hold anything.
 BLOCK = 512
 # For how many seconds the store keeps a job that is held or open: all requests come within them.
 SECONDS = 30
 
-# A call of strace's, its arguments, its file and its answer; None stands for an answer to a request.
+# A call in strace's record: its name, its arguments, its file and its answer.
 Call = tuple[str, str, str, int]
 # A place in a file and what was written there, or None if the file was cut there.
 Change = tuple[int, Optional[bytes]]
@@ -72,7 +72,7 @@ Files = dict[str, bytes]
 
 
 def events() -> list[bytes]:
-    """What clients and the device ask of the server, one after another: each is a whole HTTP request."""
+    """The requests of clients and of the device, one after another: each is a whole HTTP request."""
     chance = random.Random(1)
     last, more = record(Tag.BOOLEAN, "last-document", True), record(Tag.BOOLEAN, "last-document", False)
     return [
@@ -116,7 +116,7 @@ def events() -> list[bytes]:
 
 
 def is_done(came: bytes) -> bool:
-    """Whether an answer tells that what was asked is done."""
+    """Whether an answer says that the request is done."""
     answer = answer_of(came)
     is_message = answer.head.kind == "application/ipp"
     is_told = answer.content[2:4] in (b"\x00\x00", b"\x00\x01") if is_message else answer.content.startswith(b"ok ")
@@ -179,7 +179,7 @@ class Program:
                 file.write(content)
 
     def tables(self) -> Tables:
-        """All that the tables hold as SQLite reads them, but for the moment at which the store was made."""
+        """All that the tables hold as SQLite reads them, except the moment at which the store was made."""
         connection = sqlite3.connect(self.store)
         try:
             if connection.execute("PRAGMA integrity_check").fetchall() != [("ok",)]:
@@ -225,7 +225,7 @@ class Trace:
         self.take()
 
     def take(self) -> None:
-        """Reads what strace has taken down."""
+        """Reads the record of strace."""
         is_answered = False
         with open(self.file, encoding="ascii") as lines:
             for line in lines:
@@ -247,14 +247,14 @@ class Trace:
 
 
 class File:
-    """What a file holds for good, and what was written to it since it was last synced: places and bytes, or None where the file was cut there."""
+    """The bytes that a file holds for good, and the writes since it was last synced: places and bytes, or None if the file was cut there."""
 
     def __init__(self, content: bytes = b""):
         self.synced = content
         self.since: list[Change] = []
 
     def content(self, chance: random.Random | None = None) -> bytes:
-        """What the file holds, or may hold where the machine stopped."""
+        """The bytes of the file, or by chance those that it may hold after the machine stopped."""
         content = bytearray(self.synced)
         for place, written in self.since if chance is None else left(self.since, chance):
             content = content.ljust(place, b"\0")
@@ -266,7 +266,7 @@ class File:
 
 
 def left(changes: list[Change], chance: random.Random) -> Iterator[Change]:
-    """What a machine that stopped may have done of some changes: the first of them, or any, and parts of others."""
+    """The changes that a machine may have done before it stopped: the first of them, or any, and parts of others."""
     first = chance.randint(0, len(changes)) if chance.random() < 0.5 else None
     for number, change in enumerate(changes):
         if first is not None and number > first:
@@ -299,7 +299,7 @@ class Disk:
         self.kept = dict(self.now)
 
     def change(self, call: str, arguments: str, of: str, answer: int) -> bool:
-        """Takes down a call. It is true where a file or the folder was changed."""
+        """Takes a call of the record. It is true if a file or the folder was changed."""
         texts = [octets(text) for text in QUOTED.findall(arguments)]
         if call in ("open", "openat", "creat", "unlink", "unlinkat"):
             return self.change_name(call, arguments, os.path.normpath(os.fsdecode(texts[0])))
@@ -362,7 +362,7 @@ class Look:
         self.queues.append(self.program.tables())
 
     def is_well(self, answered: int, files: Files) -> bool:
-        """Whether these files hold the queue after so many requests of the run, or one more."""
+        """Whether these files hold the queue after the requests of the run that were answered, or after one more."""
         key = hash((answered, *sorted(files.items())))
         if key in self.seen:
             return True

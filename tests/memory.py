@@ -1,21 +1,21 @@
 #!/usr/bin/env python3
-"""Refuses a print server each of its allocations in turn, and sees that want of memory is told for what it is and changes nothing.
+"""Refuses a print server each of its allocations in turn, and checks that want of memory is reported as such and changes nothing.
 
 tests/refuse.c is loaded before the C library. It counts the program's allocations and refuses one of them: the k-th from where an
-event begins, for k = 1, 2, 3 .. until the event comes to its end with none refused. Each time that one was, the answer has to be the
-fault's own, and the same event is handed in once more; in the end its answer has to be the one that is wanted, and so has that of each
-event behind it. What is wanted comes from tests/worked and tests/second, never from the program.
+event begins, for k = 1, 2, 3 .. until the event comes to its end with none refused. After each refusal the answer has to be the
+fault's own, and the same event is handed in once more. In the end its answer has to be the one that is wanted, and so has that of each
+later event. What is wanted comes from tests/worked and tests/second, never from the program.
 
 - replay: the lines of worked examples, over tables in memory. An IPP request is answered by the bare 0x0505, a line of the device by
   `refused 6 fault`, a row of an account file by `grant refused 6`, a sweep by `expire refused`, or the program ends with `printd: memory`;
   then it is started again, and takes the lines up to there once more.
 - lists: the same examples over the queue in lists, by the program of crates/replay_cases, which takes an example whole.
-- serve: requests over HTTP on a store in a file: 0x0505, `refused 6 fault`, status 503, or a document that is broken off behind its head;
+- serve: requests over HTTP on a store in a file: 0x0505, `refused 6 fault`, status 503, or a document that is broken off after its head;
   and a server that is just being started.
 - commands: `init`, `import`, `statement`, `operators` and `expire` on a store in a file, the last three also on stores of earlier releases:
   `printd: memory`, or `printd: import fault 6 at row 0`.
 
-Where a line, a request or a command is refused before the queue is asked, a fault is no answer. Whatever is not as it should be is
+If a line, a request or a command is refused before the queue is asked, a fault is no answer. Whatever is not as it should be is
 printed, and the status is 1. Run it as `tests/memory.py [PART ..]` at the top of the repository, with a C compiler (`cc`) on the PATH and
 the programs built: `./printd --help`, and for `lists` also `rt run` in crates/replay_cases.
 """
@@ -118,7 +118,7 @@ class Page:
 
 
 class Tally:
-    """What came of the refusals."""
+    """Counts what the refusals led to."""
 
     def __init__(self, part: str):
         self.part, self.begin = part, time.perf_counter()
@@ -189,11 +189,11 @@ class Lines:
             self.process.stdin.write(line + b"\n")
             self.process.stdin.flush()
         except BrokenPipeError:
-            # it has ended, as its status tells
+            # it has ended, as its status shows
             pass
 
     def answer(self, line: bytes) -> bytes | None:
-        """What answers a line, and none where the program has ended."""
+        """The answer to a line, and none if the program has ended."""
         self.send(line)
         assert self.process.stdout is not None
         return self.process.stdout.readline().removesuffix(b"\n") or None
@@ -215,7 +215,7 @@ class Lines:
 
 
 def refuse_in_line(program: str, page: Page, given: list[Given], place: int, replay: Lines, tally: Tally) -> Lines:
-    """Refuses each allocation of one line, and gives the replay that has taken it."""
+    """Refuses each allocation of one line: the replay that has taken it."""
     line, wanted = given[place]
     assert wanted is not None
     at = 0
@@ -283,7 +283,7 @@ def sweep_replay(program: str, page: Page, are_all: bool) -> None:
 
 
 class Cases:
-    """The program of the worked examples. It runs an example over lists and then over tables, and tells of each the first line that differs
+    """The program of the worked examples. It runs an example over lists and then over tables, and prints of each the first line that differs
     from what is wanted.
     """
 
@@ -293,7 +293,7 @@ class Cases:
 
     def start(self, given: list[Given], at: int, room: int) -> subprocess.Popen[bytes]:
         """Runs lines with an allocation refused. The last line that is wanted is a wrong status, so that all lines before it were right
-        where the program tells of that one.
+        if the program prints that one.
         """
         text = b"".join(line + b"\n" for line, _ in given)
         wanted = b"".join(answer + b"\n" for _, answer in given if answer is not None)
@@ -329,7 +329,7 @@ class Cases:
             process.communicate()
 
     def reaches_tables(self, given: list[Given], at: int, room: int) -> bool:
-        """Whether the allocation is one of the run over tables, which comes behind the one over lists."""
+        """Whether the allocation is one of the run over tables, which comes after the one over lists."""
         process = self.start(given, at, room)
         differences = [self.difference(process, book) for book in (b"lists", b"tables")]
         process.communicate()
@@ -450,7 +450,7 @@ class Store:
 def sweep_command(
     store: Store, tally: Tally, words: list[str], wanted: Outcome, faults: list[Outcome], look: Callable[[bool], None]
 ) -> None:
-    """Refuses each allocation of a command, and looks at the store behind each run of which one was refused."""
+    """Refuses each allocation of a command, and looks at the store after each run of which one was refused."""
     at = 0
     while True:
         at += 1
@@ -480,7 +480,7 @@ def sweep_commands(program: str, page: Page, folder: str) -> None:
     )
 
     def look_at_new(is_done: bool) -> None:
-        """A store that was made is one. Where it was not, it can be made over what is left of it."""
+        """A store that was made is one. Otherwise it can be made over what is left of it."""
         if is_done:
             store.must(store.words("statement", "alice"), no_account)
         else:
@@ -488,7 +488,7 @@ def sweep_commands(program: str, page: Page, folder: str) -> None:
         store.clear()
 
     def put_back(is_done: bool) -> None:
-        """Where the file was taken, the store is what it was before. Else it has to be that already: in the end each row is new."""
+        """If the file was taken, the store is put back as it was. Else it has to be that already: in the end each row is new."""
         if is_done:
             store.put_back()
 
@@ -503,7 +503,7 @@ def sweep_commands(program: str, page: Page, folder: str) -> None:
         store.put_back()
 
     def look_at_older(expired: int, is_done: bool) -> None:
-        """The older tables hold the same queue, however far they were taken to the newest, but for the jobs that a command ends. They are put back."""
+        """The older tables hold the same queue, however far they were taken to the newest, except the jobs that a command ends. They are put back."""
         came = store.shown("SELECT count(*) FROM jobs WHERE phase = 8")
         if came != [(expired if is_done else 0,)]:
             raise Bad(f"jobs that have expired: {came}")
@@ -675,7 +675,7 @@ class Server:
 
 
 def exchange(server: Served, asked: bytes) -> Came:
-    """What answers a request, by a connection of its own. The status is 0 if the server has ended."""
+    """The answer to a request, by a connection of its own. The status is 0 if the server has ended."""
     try:
         came = posting.exchange(server.port, asked)
     except ConnectionError:

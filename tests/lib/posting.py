@@ -58,7 +58,7 @@ class Answer:
 
 
 def answer_of(came: bytes) -> Answer:
-    """What came on a connection as its one answer."""
+    """The one answer that came on a connection."""
     lines, _, content = came.partition(b"\r\n\r\n")
     return Answer(head_of(lines), content)
 

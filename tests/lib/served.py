@@ -14,7 +14,7 @@ from typing import IO, Optional, Union
 TOP = Path(__file__).resolve().parents[2]
 # the built program
 PROGRAM = TOP / "crates" / "printd" / "out" / "printd"
-# The greatest number of connections: a server of so many is stopped, and doesn't end by itself.
+# The greatest number of connections: a server of that number is stopped, and doesn't end by itself.
 MOST_CONNECTIONS = 4_294_967_295
 
 Place = Union[str, Path]

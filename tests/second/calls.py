@@ -1,5 +1,5 @@
 """Calls of several callers, one of them an operator, of the device and the office on one queue, drawn by a fixed rule. Most of them are
-such as are taken."""
+taken."""
 from __future__ import annotations
 
 from collections.abc import Callable, Sequence
@@ -50,8 +50,8 @@ class Calls:
         return self.draws.choice(calls)()
 
     def a_job(self, caller: str, is_fit: Callable[[KeptJob], bool], takes_any: bool = False) -> int:
-        """A job of the caller's that is fit, else another of its own, and at times just any number. To an operator, where the operation
-        takes any job, all jobs are as its own."""
+        """A job of the caller's that is fit, else another of its own, and at times just any number. An operator's own
+        are all jobs, if the operation takes any job."""
         has_any = takes_any and octets(caller) in self.queue.operators
         own = [job for job in self.queue.jobs.values() if has_any or job.owner == octets(caller)]
         fit = [job for job in own if is_fit(job)] or own
@@ -60,7 +60,7 @@ class Calls:
         return self.draws.choice(fit).number
 
     def new_job(self) -> Draft:
-        operation = self.draws.choice([Operation.PRINT_JOB, Operation.PRINT_JOB, Operation.CREATE_JOB, Operation.CREATE_JOB, Operation.CREATE_JOB, Operation.VALIDATE_JOB])
+        operation = self.draws.choice(2 * [Operation.PRINT_JOB] + 3 * [Operation.CREATE_JOB] + [Operation.VALIDATE_JOB])
         rows, job = [], None
         if self.draws.chance(40):
             rows.append(record(Tag.INTEGER, "job-impressions", self.draws.below(12)))
@@ -76,7 +76,8 @@ class Calls:
         return request(operation, *rows, job=job, caller=self.draws.choice(CALLERS), payload=payload)
 
     def on_job(self) -> Draft:
-        operation = self.draws.choice(4 * [Operation.RELEASE_JOB] + 4 * [Operation.SEND_DOCUMENT] + 2 * [Operation.HOLD_JOB, Operation.CANCEL_JOB] + [Operation.GET_JOB_ATTRIBUTES])
+        seldom = 2 * [Operation.HOLD_JOB, Operation.CANCEL_JOB] + [Operation.GET_JOB_ATTRIBUTES]
+        operation = self.draws.choice(4 * [Operation.RELEASE_JOB] + 4 * [Operation.SEND_DOCUMENT] + seldom)
         caller = self.draws.choice(CALLERS)
         # else one that the device has
         is_any_canceled = self.draws.chance(60)

@@ -1,4 +1,4 @@
-"""What a request asks, and the checks that refuse it ("Checks", "Attributes of requests" and "What is unsupported" in
+"""The call of a request, and the checks that refuse it ("Checks", "Attributes of requests" and "Unsupported attributes" in
 docs/reference/ipp.md)."""
 from __future__ import annotations
 
@@ -15,7 +15,7 @@ ON_JOB = {Operation.SEND_DOCUMENT, Operation.CANCEL_JOB, Operation.GET_JOB_ATTRI
 WITH_NAMES = {Operation.GET_JOB_ATTRIBUTES, Operation.GET_JOBS, Operation.GET_PRINTER_ATTRIBUTES}
 OPERATIONS = NEW_JOB | ON_JOB | WITH_NAMES | {Operation.CANCEL_MY_JOBS}
 
-# What is unsupported: a name and its values. What a request has of the attributes that are known: their values by name.
+# An unsupported attribute: its name and its values. The known attributes of a request: their values by name.
 Listed = tuple[bytes, list[Tagged]]
 Known = dict[bytes, list[Tagged]]
 
@@ -33,7 +33,7 @@ FORMATS = {
 
 
 class Refused(Exception):
-    """A status code, and what is unsupported where the code is 0x040B."""
+    """A status code, with the unsupported attributes if the code is 0x040B."""
 
     def __init__(self, code: int, listed: Iterable[Listed] = ()):
         super().__init__(code)
@@ -46,7 +46,7 @@ def signed(octets: bytes) -> int:
 
 
 def name_of(tag: int, octets: bytes) -> bytes | None:
-    """The text of a name, and none where it is no nameWithLanguage."""
+    """The text of a name, and none if it is no nameWithLanguage."""
     if tag != Tag.NAME_WITH_LANGUAGE:
         return octets
     rest = octets
@@ -119,7 +119,7 @@ KNOWN: dict[bytes, tuple[set[Tag], bool, Callable[[int, bytes], bool], Optional[
 
 
 def path(uri: bytes) -> bytes | None:
-    """The path of a URI, and none where it has none."""
+    """The path of a URI, and none if it has none."""
     _, mark, rest = uri.partition(b"://")
     at = rest.find(b"/")
     if not mark or at < 0:
@@ -129,7 +129,7 @@ def path(uri: bytes) -> bytes | None:
 
 
 def job_of_uri(uri: bytes) -> int | None:
-    """The number of a job that a URI names, and none where it names none."""
+    """The number of a job that a URI names, and none if it names none."""
     front = b"/ipp/print/"
     own = path(uri) or b""
     digits = own[len(front) :]
@@ -180,7 +180,7 @@ def firsts(group: Group) -> list[Attribute]:
 
 
 def asked(operation: int, body: bytes) -> Asked:
-    """What a request asks whose head is supported."""
+    """The call of a request with a supported head."""
     try:
         groups, payload = read(body)
     except Malformed:

@@ -11,7 +11,7 @@ MOST_PAGES_OF_ACCOUNT = 1_000_000_000
 BATCH = re.compile(rb"[A-Za-z0-9._-]{1,40}")
 PAGES = re.compile(rb"0|[1-9][0-9]*")
 
-# a field in quotes, in which two stand for one and which need not be closed, with what stands behind it; or one without
+# a field in quotes, in which two quotes are one and which need not be closed, with the text after it; or a field without quotes
 FIELD = re.compile(rb'"((?:[^"]|"")*)(?:"|\Z)([^,\r\n]*)|([^,\r\n]*)')
 
 
@@ -70,7 +70,7 @@ def read_row(fields: list[bytes]) -> Row:
 
 
 def new_rows(rows: list[Row], granted: Grants) -> Grants:
-    """The rows that are new beside those that are granted, as pages by batch and account."""
+    """The rows that were not granted before, as pages by batch and account."""
     new: Grants = {}
     known = ChainMap(new, granted)
     for batch, account, pages in rows:

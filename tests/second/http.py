@@ -1,4 +1,4 @@
-"""What a connection to the server answers, by the bytes that come in on it (docs/reference/http.md)."""
+"""The answers of a connection to the server, by the bytes that come in on it (docs/reference/http.md)."""
 from __future__ import annotations
 
 import re
@@ -110,7 +110,7 @@ class Head:
     fields: list[Field] = field(default_factory=list)
 
     def values(self, name: bytes) -> list[bytes]:
-        """The values of the field lines of a name, which is told in lower case."""
+        """The values of the field lines of a name, which is in lower case."""
         return [value for other, value in self.fields if other.lower() == name]
 
     def members(self, name: bytes) -> set[bytes]:
@@ -127,7 +127,7 @@ class Input:
         self.beyond = Refused(400)
 
     def bound(self, count: int, refusal: Refused) -> None:
-        """From here on no more than so many bytes may be read; where more are wanted, this is the refusal."""
+        """Sets how many bytes may be read from here on, and the refusal if more are wanted."""
         self.limit, self.beyond = self.at + count, refusal
 
     def byte(self) -> int:
@@ -161,7 +161,7 @@ def line_ends(reader: Input, byte: int) -> bool:
 
 
 def read_fields(reader: Input, too_many: Refused) -> list[Field]:
-    """Field lines, to the empty line behind them."""
+    """Field lines, to the empty line after them."""
     fields: list[Field] = []
     while True:
         byte = reader.byte()
@@ -256,7 +256,7 @@ def routed(head: Head) -> tuple[str, re.Match[bytes], int, bool]:
 
 
 def read_chunk_line(reader: Input) -> int:
-    """The size that a chunk line tells."""
+    """The size in a chunk line."""
     reader.bound(MOST_CHUNK_LINE_BYTES, Refused(400))
     digits = bytearray()
     while (byte := reader.byte()) in HEX and len(digits) < 16:
@@ -290,7 +290,7 @@ def read_chunks(reader: Input) -> bytes:
 
 @dataclass
 class Answered:
-    """What a connection was answered, and how many of its requests acted."""
+    """The bytes that a connection was answered, and how many of its requests acted."""
 
     bytes: bytes = b""
     acted: int = 0

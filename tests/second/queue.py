@@ -34,7 +34,7 @@ WAITING, RUNNING = (3, 4), (5, 6)
 
 @dataclass(frozen=True)
 class KeptJob(Job):
-    """A job, with the marks that replies tell by its state and reasons alone."""
+    """A job, with the marks that replies show by its state and reasons alone."""
 
     name: bytes = b""
     owner: bytes = b""
@@ -137,7 +137,7 @@ class Queue:
         return job
 
     def keep(self, job: KeptJob) -> KeptJob:
-        """Keeps a job as it is now. What it had reserved and printed, less what it has now, goes back to its owner's account."""
+        """Keeps a job as it is now. The pages that it had reserved and printed, less those that it has now, go back to its owner's account."""
         before, job = self.jobs.get(job.number), job.told()
         if before is not None and job.owner in self.free:
             self.free[job.owner] += before.pages() - job.pages()
@@ -165,7 +165,7 @@ class Queue:
         return answer.spelled(request_id)
 
     def act(self, request: Asked, now: int) -> list[bytes]:
-        """Does what is asked, and gives the groups that the reply shows."""
+        """Does what is asked: the groups that the reply shows."""
         operation = request.operation
         if operation in (Operation.PRINT_JOB, Operation.VALIDATE_JOB, Operation.CREATE_JOB):
             return self.new_job(request, now)
@@ -295,7 +295,7 @@ class Queue:
             return refusal.answer
 
     def grant(self, text: bytes) -> bytes:
-        """What comes of an account file with these rows under its header."""
+        """The answer to an account file with these rows under its header."""
         try:
             rows = [read_row(fields) for fields in records(text)]
             new = new_rows(rows, self.granted)
@@ -319,7 +319,7 @@ def can_be_canceled(job: KeptJob) -> bool:
 
 
 def reported(job: KeptJob, report: Report, now: int) -> KeptJob:
-    """What a report that is taken makes of its job."""
+    """The job of a report after the report is taken."""
     job = replace(job, completed=max(job.completed, report.count))
     state = KINDS[report.kind][1]
     if state in RUNNING:
@@ -342,7 +342,7 @@ def job_group(job: KeptJob, now: int, names: Iterable[bytes] | None, usual: Iter
 
 
 def listed(attributes: Iterable[Listed]) -> bytes:
-    """The group of what is unsupported, where something is."""
+    """The group of unsupported attributes, if there are any."""
     if not attributes:
         return b""
     return unsupported(

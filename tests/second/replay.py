@@ -1,4 +1,4 @@
-"""What answers the lines of a replay ("Lines of `replay`" in docs/reference/ipp.md)."""
+"""The answers to the lines of a replay (docs/reference/command-line.md)."""
 from __future__ import annotations
 
 import re
@@ -24,7 +24,7 @@ class Replay:
         self.now = 1
 
     def answer(self, line: bytes) -> bytes | None:
-        """The line that answers a line, both without their line feeds, and none where nothing answers it."""
+        """The line that answers a line, both without their line feeds, and none if nothing answers it."""
         now, message = NOW.fullmatch(line), MESSAGE.fullmatch(line)
         if now is not None and int(now[1]) <= LAST_MOMENT:
             self.now = int(now[1])

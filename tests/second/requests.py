@@ -58,7 +58,8 @@ class Writer:
 
     def request(self) -> bytes:
         """The bytes of a request, often a crooked one."""
-        operation = self.random.choice(3 * NEW_JOB + 2 * [Operation.SEND_DOCUMENT] + ON_JOB + 2 * [Operation.GET_JOBS] + [Operation.GET_PRINTER_ATTRIBUTES, Operation.CANCEL_MY_JOBS])
+        others = 2 * [Operation.GET_JOBS] + [Operation.GET_PRINTER_ATTRIBUTES, Operation.CANCEL_MY_JOBS]
+        operation = self.random.choice(3 * NEW_JOB + 2 * [Operation.SEND_DOCUMENT] + ON_JOB + others)
         groups: list[Group] = [(0x01, self.operation_attributes(operation))]
         if operation in NEW_JOB and self.chance(0.5):
             groups.append((0x02, self.job_attributes()))
@@ -156,12 +157,12 @@ class Writer:
         return choice(values)
 
     def any_place(self, groups: list[Group]) -> tuple[list[Attribute], int] | None:
-        """Some attribute's group and place, and none where there is none."""
+        """Some attribute's group and place, and none if there is none."""
         places = [(attributes, place) for _, attributes in groups for place in range(len(attributes))]
         return self.random.choice(places) if places else None
 
     def change_value(self, head: Head, groups: list[Group]) -> None:
-        """Another value, one more, one less, another tag, or a value of the same tag from those that are told apart."""
+        """Another value, one more, one less, another tag, or another value of the same tag."""
         found = self.any_place(groups)
         if found is None:
             return
@@ -170,7 +171,10 @@ class Writer:
         values = list(values)
         at = self.random.randrange(len(values))
         tag, value = values[at]
-        kinds: dict[int, Sequence[Value]] = {Tag.URI: FRONTS, Tag.NAME: TEXTS, Tag.INTEGER: NUMBERS, Tag.KEYWORD: WORDS, Tag.MEDIA_TYPE: FORMATS, Tag.LANGUAGE: TEXTS, Tag.CHARSET: WORDS}
+        kinds: dict[int, Sequence[Value]] = {
+            Tag.URI: FRONTS, Tag.NAME: TEXTS, Tag.INTEGER: NUMBERS, Tag.KEYWORD: WORDS, Tag.MEDIA_TYPE: FORMATS, Tag.LANGUAGE: TEXTS,
+            Tag.CHARSET: WORDS,
+        }
         same = self.random.choice(kinds.get(tag, TEXTS))
         if tag == Tag.URI:
             same = octets(same) + (self.random.choice(PATHS) + self.random.choice(ENDS)).encode()

@@ -39,9 +39,15 @@ CROOKED_TARGETS: list[Text] = [
     "/device/document/-1/1", "/device/document/1/1?x", "/device/document/a/b", "/device/documents/1/1", "/ipp/print/" + 300 * "9", b"/ipp/print/\xc3\xa9", b"/ipp/print/\xe9",
 ]
 METHODS = ["GET", "POST", "HEAD", "PUT", "OPTIONS", "get", "Post", "G", "M-SEARCH", "PRI", "a!#$%&'*+.^_`|~9"]
-# what may stand in for a line of a head, or between two
-LINES = [b" folded", b"\tfolded", b"Name : value", b": value", b"Name", b"Name value", b"X\x00: a", b"X: a\x00b", b"X: a\x7fb", b"X: a\rb", b"X: a\x0bb", b"\r", b"X:", b"X:\t \t", b"X:a:b"]
-CHUNK_LINES = [b"", b"g", b"-1", b"+1", b"0x1", b" 1", b"1 1", b"11111111111111111", b"1000001", b"ffffffffffffffff", b"1\t ;a=\"b\x00\xff\"", b"1;a\rb", b"1;" + 1021 * b"e", b"1;" + 1019 * b"e"]
+# lines for a head, in place of a line or between two
+LINES = [
+    b" folded", b"\tfolded", b"Name : value", b": value", b"Name", b"Name value", b"X\x00: a", b"X: a\x00b", b"X: a\x7fb", b"X: a\rb", b"X: a\x0bb",
+    b"\r", b"X:", b"X:\t \t", b"X:a:b",
+]
+CHUNK_LINES = [
+    b"", b"g", b"-1", b"+1", b"0x1", b" 1", b"1 1", b"11111111111111111", b"1000001", b"ffffffffffffffff", b"1\t ;a=\"b\x00\xff\"", b"1;a\rb",
+    b"1;" + 1021 * b"e", b"1;" + 1019 * b"e",
+]
 
 
 class Streams:
@@ -55,7 +61,7 @@ class Streams:
         return self.random.random() < probability
 
     def stream(self, now: int) -> bytes:
-        """The bytes of a connection: requests, each of which is made for the queue behind those before it."""
+        """The bytes of a connection: requests, each of which is made for the queue after those before it."""
         draft, stream = copy.deepcopy(self.queue), b""
         count = MOST_REQUESTS + 2 if self.chance(0.02) else self.random.choice([0, 1, 1, 2, 3, 5, 8])
         for _ in range(count):
@@ -91,7 +97,7 @@ class Streams:
             return self.posted(target, MESSAGE, Writer(self.random, draft).request())
         while not isinstance(call := self.calls(draft).call(), Draft):
             pass
-        # a payload stands at the end, so this makes one longer
+        # the payload is at the end, so this makes it longer
         more = self.random.randbytes(self.random.choice([4_095, 4_096, 65_537, 300_000])) if self.chance(0.03) else b""
         return self.posted(target, MESSAGE, call.spelled(self.random.getrandbits(32)) + more)
 

@@ -46,13 +46,13 @@ def cancel(number: int, caller: Optional[str] = "alice") -> Draft:
 
 
 def print_pages(impressions: int, copies: int = 1, caller: Optional[str] = "alice") -> Draft:
-    """A Print-Job of so many pages."""
+    """A Print-Job of a number of pages and copies."""
     rows = [record(Tag.INTEGER, "copies", copies)]
     return print_job(record(Tag.INTEGER, "job-impressions", impressions), job=rows, caller=caller)
 
 
 def are_free(pages: int, number: int, caller: Optional[str] = "alice") -> list[Step]:
-    """The steps that show how many pages are free: a new job of so many is released, and one of a page more is not.
+    """The steps that show how many pages are free: a new job of that number is released, and one of a page more is not.
 
     They end with the pages as they were. The new jobs have this number and the next.
     """
@@ -81,7 +81,7 @@ case(
     *are_free(30, 4),
     grant("f24,alice,31", "refused 4"),
     *are_free(30, 6),
-    # a repeat is no conflict behind one
+    # a repeat is no conflict after one
     grant("f24,alice,30", REPEAT),
     grant("f25,alice,30"),
     *are_free(60, 8),

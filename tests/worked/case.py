@@ -1,4 +1,4 @@
-"""What an example is made of."""
+"""The parts of an example."""
 from __future__ import annotations
 
 import re
@@ -84,7 +84,7 @@ def expire(count: int) -> Exchange:
 
 
 def sized(length: int, message: Draft) -> Draft:
-    """The message, which has so many bytes."""
+    """The message, which has to have this length."""
     assert len(message.spelled(1)) == length, (length, len(message.spelled(1)))
     return message
 

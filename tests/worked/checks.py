@@ -11,7 +11,7 @@ from worked.case import case, print_job, refused, refuses, taken, takes
 
 @dataclass(frozen=True)
 class Parts:
-    """The parts of a Print-Job that the checks look at, in the order of the checks. As it stands here, it fails them all."""
+    """The parts of a Print-Job that the checks look at, in the order of the checks. By default it fails them all."""
 
     major: int = 3
     operation: int = 0x12
@@ -38,7 +38,7 @@ class Parts:
         body += record(Tag.MEDIA_TYPE, "document-format", self.document_format)
         body += record(Tag.BOOLEAN, "ipp-attribute-fidelity", self.is_strict)
         body += JOB_GROUP + record(Tag.KEYWORD, "media", "iso_a4_210x297mm")
-        # a record without a name behind a delimiter spells no message
+        # a record without a name after a delimiter spells no message
         body += b"" if self.is_whole else JOB_GROUP + record(Tag.KEYWORD, "", "")
         return Draft(self.operation, body + END + b"hi", bytes([self.major, 1]))
 

@@ -43,7 +43,7 @@ RUNS = [*RELEASES, dev("1 1 start 0", "ok 1 5 0")]
 
 
 def are_owed(pages: int, number: int) -> list[Step]:
-    """The steps that show how many pages alice's account lacks: a job without pages is released once so many are granted.
+    """The steps that show how many pages alice's account lacks: a job without pages is released once that number is granted.
 
     The new job has this number. Then no page is free.
     """
@@ -152,9 +152,9 @@ case(
     dev("7 0 start 0", RANGE),
     dev("7 1 count 100000001", RANGE),
     dev("1 2 count 100000001", RANGE),
-    # the job before what was told
+    # the job before the count
     dev("7 2 count 13", NO_JOB),
-    # what was told before the state
+    # the count before the state
     dev("1 2 count 13", CONFLICT),
     dev("1 2 count 11", CONFLICT),
     dev("1 2 stop 12", CONFLICT),

@@ -7,7 +7,7 @@ from worked.case import case, done, print_job, refused, refuses, sized, taken, t
 
 
 def padded(front: str, octets: int) -> str:
-    """A text of so many octets that begins with this front."""
+    """A text of a number of octets that begins with this front."""
     return front + (octets - len(front)) * "a"
 
 
@@ -38,7 +38,7 @@ refuses("printer-uri of 1024 octets", print_job(printer=padded("ipp://localhost/
 
 
 def cancel_by_uri(octets: int) -> Draft:
-    """A Cancel-Job of job 1 by a URI of so many octets."""
+    """A Cancel-Job of job 1 by a URI of a number of octets."""
     return request(Operation.CANCEL_JOB, record(Tag.URI, "job-uri", padded(f"{PRINTER}/1#", octets)))
 
 

@@ -73,7 +73,7 @@ replay(
 
 
 def nested(depth: int) -> Draft:
-    """A Print-Job whose job group has an attribute of so many collections, one in the other."""
+    """A Print-Job whose job group has an attribute of collections, one in the other."""
     values = [(Tag.BEGIN_COLLECTION, "a" if place == 0 else "", b"") for place in range(depth)]
     values += [(Tag.END_COLLECTION, "", b"")] * depth
     return print_job(job=[record(*value) for value in values])

@@ -1,4 +1,4 @@
-"""The most pages, copies and counts that there may be, in each place where they stand."""
+"""The most pages, copies and counts that there may be, in each place of a message, a line or a row."""
 from ipp import Tag, record
 from worked.played import Play
 from worked.states import KINDS, bring

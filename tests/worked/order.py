@@ -50,13 +50,13 @@ class Crooked:
         if self.operation in NEW_JOB:
             body += record(Tag.BOOLEAN, "ipp-attribute-fidelity", self.fails("fidelity"))
             body += JOB_GROUP + record(Tag.KEYWORD, "sides", "one-sided") + record(Tag.INTEGER, "copies", 0)
-        # a record without a name behind a delimiter spells no message
+        # a record without a name after a delimiter spells no message
         body += JOB_GROUP + record(Tag.KEYWORD, "", "") if self.fails("bytes") else b""
         version = b"\x03\x01" if self.fails("version") else VERSION_1_1
         return Draft(PURGE_JOBS if self.fails("operation") else self.operation, body + END + b"hi", version)
 
     def target(self) -> bytes:
-        """What the operation needs, but for one attribute of it as long as that check fails."""
+        """The attributes that the operation needs, except one as long as that check fails."""
         body = b""
         if self.operation in ON_JOB:
             body += record(Tag.INTEGER, "job-id", self.number)

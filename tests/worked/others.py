@@ -1,4 +1,4 @@
-"""What others ask is nothing to a caller, and what comes again is answered again and changes nothing."""
+"""Requests of others change nothing for a caller, and a request that comes again is answered again and changes nothing."""
 from dataclasses import replace
 
 from worked.accounts import HELD, REPEAT, are_free, is_seen, release
@@ -14,7 +14,7 @@ FIRST_RELEASE = [grant("f24,alice,30"), (print_job(), taken(1)), (print_job(), t
 SECOND_RELEASE = [(release(2), refused(0x0404)), (jobs(), listed(1, 2))]
 case("two releases with nothing of another caller between them", *FIRST_RELEASE, *SECOND_RELEASE)
 
-# alice is told the same, to the byte, whoever prints two jobs in between
+# alice gets the same answer, to the byte, whoever prints two jobs in between
 for other in ["bob", "carol", "Alice", "anonymous"]:
     case(
         f"two jobs of {other} between those of another caller",

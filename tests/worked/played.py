@@ -27,7 +27,7 @@ class Play:
             replay(self.name, self.text, self.wanted)
 
     def line(self, text: bytes) -> bytes:
-        """Takes a line without its line feed, and gives the line that answers it."""
+        """Takes a line without its line feed: the line that answers it."""
         answer = self.replay.answer(text)
         assert answer is not None, (self.name, text)
         self.text += text + b"\n"
@@ -40,7 +40,7 @@ class Play:
         self.text += text + b"\n"
 
     def ask(self, message: Draft, code: int | None = None) -> int:
-        """Asks a request under a request-id of its own, and gives the code of its reply. Where a code is wanted, it is this."""
+        """Asks a request under a request-id of its own: the code of its reply, which has to be the wanted one, if there is one."""
         answer = self.line(line(message, FIRST_REQUEST_ID + self.exchanges).strip())
         self.exchanges += 1
         came = int(answer[len("ipp 0101") : len("ipp 01010000")], 16)
@@ -48,13 +48,13 @@ class Play:
         return came
 
     def dev(self, text: Value, answer: Value | None = None) -> bytes:
-        """Takes a line of the device, and gives its answer. Where one is wanted, it begins with this."""
+        """Takes a line of the device: its answer, which has to begin with the wanted one, if there is one."""
         came = self.line(b"dev " + octets(text))
         assert answer is None or came.startswith(octets(answer)), (self.name, text, came)
         return came
 
     def grant(self, row: Value, answer: str | None = None) -> bytes:
-        """Takes an account file of one row, and gives what comes of it."""
+        """Takes an account file of one row: its answer, which has to be the wanted one, if there is one."""
         came = self.line(b"grant " + octets(row))[len(b"grant ") :]
         assert answer in (None, came.decode()), (self.name, row, came)
         return came
@@ -77,12 +77,12 @@ class Play:
         return self.queue.free[octets(caller)]
 
     def print_job(self, *attributes: bytes, caller: Value = "alice", payload: bytes = b"hi", **others: Any) -> int:
-        """Makes a job, and gives its number."""
+        """Makes a job: its number."""
         self.ask(request(Operation.PRINT_JOB, *attributes, caller=caller, payload=payload, **others), 0x0000)
         return self.last_job()
 
     def create_job(self, *attributes: bytes, caller: Value = "alice", **others: Any) -> int:
-        """Makes a job that takes documents, and gives its number."""
+        """Makes a job that takes documents: its number."""
         self.ask(request(Operation.CREATE_JOB, *attributes, caller=caller, **others), 0x0000)
         return self.last_job()
 
@@ -104,14 +104,14 @@ class Play:
         return self.do(Operation.GET_JOB_ATTRIBUTES, number, *([wants(*names)] if names else []), **others)
 
     def report(self, number: int, kind: str, count: int | None = None) -> bytes:
-        """Takes a new report on a job, whose count does not rise where none is handed in, and gives the answer."""
+        """Takes a new report on a job, whose count does not rise if none is handed in: the answer."""
         sequences = [sequence for job, sequence in self.queue.reports if job == number]
         if count is None:
             count = self.job(number).completed
         return self.dev(f"{number} {max(sequences, default=0) + 1} {kind} {count}")
 
     def find_free(self, caller: Value = "alice") -> None:
-        """Shows how many pages are free: a job of a page more is not released, and one of so many is."""
+        """Shows how many pages are free: a job of a page more is not released, and one of just these is."""
         pages = self.free(caller)
         rows = [record(Tag.INTEGER, "job-impressions", max(pages + more, 0)) for more in (1, 0)]
         more, just = [self.print_job(row, caller=caller) for row in rows]
