@@ -8,11 +8,13 @@
 The checks:
 
     links     each relative link names a file that is there, each anchor a heading, and the README leads to each document
-    paths     each path in backticks and in commands exists; a file's name alone is one of some folder
+    paths     each path in backticks and in commands exists; a file's name alone is one of some folder. Each document that a source or a
+              script names exists
     names     each name in backticks with `::`, `_` or two capital letters is one of the code, the tests or the tools; `crate::name`
               is defined in that crate. Under a heading that is a crate's name each word in backticks is one of that crate's, as a
-              clause's name is. In a table's column with the word `example` in its head each name is a worked example's, and in one with
-              `test` each text of several words is the name of a case
+              clause's name is. In a table each name is a worked example's in a column with the word `example` in its head, and in one
+              with `definition`, `law`, `function` or `clause` each word is one that some crate defines. In one with `test` each text of
+              several words is the name of a case
     commands  each subcommand of printd, and each option of printd and of a script, is one that it takes
     sizes     the README has at most 10,000 bytes, docs/ 230,000, CONTRIBUTING.md 80 lines, a crate's README 60 lines
 
@@ -58,6 +60,8 @@ FOREIGN_NAMES = {
 }
 # Words of printd's messages, which the pages of crates name too.
 MESSAGES = {"memory", "disk", "damaged", "io"}
+# Sources of crates that name documents by paths of before. Changing a comment there proves the crates above once more.
+OLD_PATHS = {f"crates/queue_laws/src/{name}.rt" for name in ("reported", "accounting", "fetching")}
 # Options in backticks of programs that are not the repository's.
 FOREIGN_OPTIONS = {"--cafile", "--foreground", "--anew", "--fail-alloc", "--fold", "--show-npages", "--show-pages"}
 
@@ -228,31 +232,32 @@ class Repository:
     def text(self, name: str) -> str:
         return (self.top / name).read_text(encoding="utf-8", errors="replace")
 
+    @functools.cached_property
+    def sources(self) -> list[str]:
+        """The files of code, and of no document."""
+        return [name for name in self.files if not name.endswith(".md") and not is_input(name)]
+
     def is_script(self, name: str) -> bool:
         return os.access(self.top / name, os.X_OK) and not name.startswith("crates/")
 
     @functools.cached_property
     def names(self) -> Names:
         names = Names()
-        for name in self.files:
-            if name.endswith(".md"):
-                continue
+        for name in filter(is_input, self.files):
+            names.examples |= {line[2:] for line in self.text(name).splitlines() if line.startswith("# ")}
+        for name in self.sources:
             parts = name.split("/")
             words = {Path(name).stem.split(".")[0]} | {part for part in parts[:-1] if WORD.fullmatch(part)}
-            if parts[0] == "crates" and len(parts) == 3:
-                # the input of a program, of which the names of worked examples count
-                names.examples |= {line[2:] for line in self.text(name).splitlines() if line.startswith("# ")}
-            else:
-                text = self.text(name)
-                comment = COMMENTS.get(Path(name).suffix)
-                text = comment.sub("", text) if comment else text
-                names.cases |= set(CASE.findall(text))
-                names.functions |= set(FUNCTION.findall(text))
-                if parts[0] == "crates" and name.endswith((".rt", ".antt")):
-                    names.defined.setdefault(parts[1], {parts[1]}).update(defined_in(text), words)
-                words |= set(WORD.findall(text))
+            text = self.text(name)
+            comment = COMMENTS.get(Path(name).suffix)
+            text = comment.sub("", text) if comment else text
+            names.cases |= set(CASE.findall(text))
+            names.functions |= set(FUNCTION.findall(text))
+            if parts[0] == "crates" and name.endswith((".rt", ".antt")):
+                names.defined.setdefault(parts[1], {parts[1]}).update(defined_in(text), words)
+            words |= set(WORD.findall(text))
             names.all |= words
-            if parts[0] == "crates" and len(parts) > 2:
+            if parts[0] == "crates":
                 names.by_crate.setdefault(parts[1], {parts[1]}).update(words)
         return names
 
@@ -273,6 +278,11 @@ class Repository:
         if "*" not in form:
             return any(one in self.file_set or one in self.folders for one in forms)
         return any(matches(name, one) for name in [*self.files, *self.folders] for one in forms)
+
+
+def is_input(name: str) -> bool:
+    """Whether a file is what a crate's program reads or prints: worked examples, of which the names count."""
+    return name.startswith("crates/") and name.count("/") == 2
 
 
 def defined_in(text: str) -> set[str]:
@@ -354,6 +364,11 @@ def check_paths(repository: Repository) -> Iterator[Finding]:
                 yield from missing_in_command(repository, document, span.line, span.text)
         for line, text in document.code:
             yield from missing_in_command(repository, document, line, text)
+    for name in repository.sources:
+        for number, text in enumerate(repository.text(name).splitlines(), 1):
+            for path in re.findall(r"\bdocs/[\w/-]+\.md\b", text):
+                if path not in repository.file_set and name not in OLD_PATHS:
+                    yield Finding(name, number, f"no such document: {path}")
 
 
 def missing_in_command(repository: Repository, document: Document, line: int, text: str) -> Iterator[Finding]:
@@ -408,8 +423,15 @@ def check_names(repository: Repository) -> Iterator[Finding]:
             elif not re.search(r"\.[a-z]+$|/", span.text.split(" ")[0]):
                 for name in unknown_names(repository, span.text):
                     yield Finding(document.path, span.line, f"nothing has the name: {name}")
+                if re.search(r"\b(definition|law|function|clause)s?\b", head) and not is_defined(repository, span.text):
+                    yield Finding(document.path, span.line, f"no crate defines: {span.text}")
                 if re.fullmatch(r"[a-z]+", span.text) and span.heading in names.by_crate and not is_word_of(repository, span.heading, span.text):
                     yield Finding(document.path, span.line, f"nothing in {span.heading} has the name: {span.text}")
+
+
+def is_defined(repository: Repository, text: str) -> bool:
+    """Whether some crate defines the word that a text is; a text that is no word is taken for something else."""
+    return not WORD.fullmatch(text) or any(text in defined for defined in repository.names.defined.values())
 
 
 def is_word_of(repository: Repository, crate: str, word: str) -> bool:
