@@ -186,7 +186,8 @@ FUNCTION = re.compile(r"\bfn\s+(\w+)")
 DEFINED = (
     FUNCTION, re.compile(r"\b(?:struct|enum|trait|const|static|type|mod)\s+(\w+)"),
     re.compile(r"(?m)^\s+(?:pub(?:\([a-z]+\))? )?(\w+)\s*(?:[:,({]|$)"), re.compile(r"\b(?:ensures|requires|invariant)\s+(\w+)\s*\{"),
-    re.compile(r"(?m)^(?:\w+ )*?(\w+) :"), re.compile(r"(?m)^(\w+) .*="),
+    re.compile(r"(?m)^(?:\w+ )*?(\w+) :"),
+    re.compile(r"(?m)^(?:\w+ )?pub (?:record |data )?(\w+)"), re.compile(r"(?m)^(\w+) .*="),
 )
 EXPORTED = re.compile(r"\bpub use ([^;]*);")
 
