@@ -1,4 +1,4 @@
-"""A small printer that speaks IPP 2.0, over TCP or over a Unix socket as cupsd's queues do. What it does with a job the test says.
+"""A small printer that speaks IPP 2.0, over TCP or over a Unix socket as cupsd's queues do. The test says how it behaves.
 
 It counts the pages of the PDFs that come, prints one after the other, may print nothing, be slow, pause or jam after a page, or report no count.
 """

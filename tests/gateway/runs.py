@@ -10,12 +10,12 @@ from pathlib import Path
 from typing import Union
 
 TOP = Path(__file__).resolve().parents[2]
-# who imports this finds the programs' modules
-sys.path.insert(0, str(TOP / "tools" / "lib"))
+# who imports this finds the shared modules of tests and of programs
+sys.path[:0] = [f"{TOP}/tests/lib", f"{TOP}/tools/lib"]
 # their first lines name Debian's Python, for which this one does as well
 BACKEND = (sys.executable, "-I", f"{TOP}/tools/cups-gateway/release")
 PRINT_PAGES = (sys.executable, "-I", f"{TOP}/tools/cups-gateway/print-pages")
-DEVICE, STATION = TOP / "examples" / "device", TOP / "examples" / "release-station"
+DEVICE, STATION = TOP / "tools" / "device.py", TOP / "tools" / "release_station.py"
 # programs find the tests' qpdf first
 COUNTER_PATH = f"{TOP}/tests/gateway/bin:{os.environ['PATH']}"
 RUN_SECONDS = 600

@@ -5,15 +5,14 @@ import http.client
 import os
 import shutil
 import signal
-import socket
 import subprocess
 import tempfile
-import threading
 from pathlib import Path
 
 from runs import TOP
 
 import ipp
+from served import PROGRAM, Served, free_port
 
 ANSWER_SECONDS = 300
 PRINTER = "ipp://localhost/ipp/print"
@@ -26,14 +25,7 @@ def program() -> Path:
     if named:
         return Path(named).resolve()
     subprocess.run([TOP / "printd", "--help"], stdout=subprocess.DEVNULL, check=True)
-    return TOP / "crates" / "printd" / "out" / "printd"
-
-
-def free_port() -> int:
-    """A port of 127.0.0.1 on which nobody listens now."""
-    with socket.socket() as probe:
-        probe.bind(("127.0.0.1", 0))
-        return int(probe.getsockname()[1])
+    return PROGRAM
 
 
 class Asked:
@@ -82,7 +74,7 @@ class Server(Asked):
         self.printd = program()
         self.folder = Path(tempfile.mkdtemp())
         self.store = self.folder / "queue.db"
-        self.process: subprocess.Popen[str] | None = None
+        self.served: Served | None = None
         self.run("init", "--store", str(self.store), "--uri", PRINTER, "--name", "release")
         if pages:
             self.grant(pages)
@@ -98,34 +90,24 @@ class Server(Asked):
         self.run("import", "--store", str(self.store), str(file))
 
     def start(self) -> None:
-        self.process = subprocess.Popen(
-            [self.printd, "serve", "--store", str(self.store), "--port", str(self.port), "--connections", "1000000"],
-            stdout=subprocess.PIPE, text=True,
-        )
-        assert self.process.stdout is not None
-        line = self.process.stdout.readline()
-        if not line.startswith("listening"):
-            raise RuntimeError(f"the server doesn't listen: {line!r}, status {self.process.wait()}")
+        self.served = Served(self.store, program=self.printd, port=self.port)
+        if not self.served.is_listening:
+            raise RuntimeError(f"the server doesn't listen: {self.served.first_line!r}, status {self.served.end()[0]}")
         # a line for each connection follows, which nobody needs
-        self.drain = threading.Thread(target=self.process.stdout.read, daemon=True)
-        self.drain.start()
+        self.served.drain()
 
     def stop(self) -> None:
-        if self.process is not None:
-            self.process.kill()
-            self.process.wait()
-            self.drain.join()
-            assert self.process.stdout is not None
-            self.process.stdout.close()
-            self.process = None
+        if self.served is not None:
+            self.served.stop()
+            self.served = None
 
     def hang(self) -> None:
-        assert self.process is not None
-        self.process.send_signal(signal.SIGSTOP)
+        assert self.served is not None
+        self.served.process.send_signal(signal.SIGSTOP)
 
     def go_on(self) -> None:
-        assert self.process is not None
-        self.process.send_signal(signal.SIGCONT)
+        assert self.served is not None
+        self.served.process.send_signal(signal.SIGCONT)
 
     def close(self) -> None:
         self.stop()

@@ -14,10 +14,11 @@ import documents
 from backend import CANCELS, HELD, STOPS, USAGE, WAITS, Backend, Stand
 from documents import pdf
 from runs import BACKEND, COUNTER_PATH, RUN_SECONDS, Run, run
-from server import PRINTER, Server, free_port, named_values
+from server import PRINTER, Server, named_values
 
 import gateway
 import ipp
+from served import free_port
 
 MOST_OCTETS = 16_777_216
 MOST_JOBS = 100

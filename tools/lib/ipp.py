@@ -1,6 +1,6 @@
 """Messages of IPP (RFC 8010, section 3): spells requests, reads replies, and exchanges them over HTTP.
 
-The release station, CUPS' backend, the command that prints and the gateway's check use it; so does the printer of the tests.
+The release station, CUPS' backend, the command that prints and the gateway's check use it; so do the tests and the measurements.
 """
 from __future__ import annotations
 
@@ -72,6 +72,7 @@ class Group(IntEnum):
 class Tag(IntEnum):
     """Value tags (RFC 8010, section 3.5.2)."""
 
+    UNSUPPORTED = 0x10
     NO_VALUE = 0x13
     INTEGER = 0x21
     BOOLEAN = 0x22
@@ -176,26 +177,40 @@ def octets(value: Value) -> bytes:
     return value.to_bytes(4, "big", signed=True)
 
 
+def unsigned(number: int) -> bytes:
+    """A number without a sign in four bytes, as a request-id."""
+    return number.to_bytes(4, "big")
+
+
 def counted(text: bytes) -> bytes:
+    """Octets after their number, which has two bytes."""
     return len(text).to_bytes(2, "big") + text
 
 
-def attribute(tag: int, name: str, *values: Value) -> bytes:
+def record(tag: int, name: Value, value: Value) -> bytes:
+    """A value with a name. With the empty name it is a further value of the attribute before it."""
+    return bytes([tag]) + counted(octets(name)) + counted(octets(value))
+
+
+def attribute(tag: int, name: Value, *values: Value) -> bytes:
     """An attribute with its values: every further value is a record without a name."""
-    return b"".join(
-        bytes([tag]) + counted(b"" if place else name.encode()) + counted(octets(value)) for place, value in enumerate(values)
-    )
+    return b"".join(record(tag, b"" if place else name, value) for place, value in enumerate(values))
+
+
+def name_with_language(language: Value, text: Value) -> bytes:
+    """The value of a nameWithLanguage."""
+    return counted(octets(language)) + counted(octets(text))
 
 
 def message(code: int, request_id: int, groups: Iterable[tuple[Group, bytes]], data: bytes = b"", version: bytes = VERSION_1_1) -> bytes:
     """A message of groups that are spelled already, each after its delimiter."""
     spelled = b"".join(bytes([group]) + attributes for group, attributes in groups)
-    return version + code.to_bytes(2, "big") + request_id.to_bytes(4, "big") + spelled + bytes([Group.END]) + data
+    return version + code.to_bytes(2, "big") + unsigned(request_id) + spelled + bytes([Group.END]) + data
 
 
-def begun() -> bytes:
+def begun(charset: str = "utf-8", language: str = "en") -> bytes:
     """The two attributes with which the operation group of each message begins."""
-    return attribute(Tag.CHARSET, "attributes-charset", "utf-8") + attribute(Tag.LANGUAGE, "attributes-natural-language", "en")
+    return record(Tag.CHARSET, "attributes-charset", charset) + record(Tag.LANGUAGE, "attributes-natural-language", language)
 
 
 def request(
